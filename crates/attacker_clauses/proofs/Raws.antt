@@ -14,23 +14,23 @@ use Rattle.term_tree.proofs.BankLaws.{AreKnown-grows, trees_at-grow}
 use Rattle.clause_form.specs.Seen.{fact_at, AreFactsIn, NameTerms}
 use Rattle.clause_form.proofs.Copying.{NameTerms-grows, NameTerms-push}
 
--- the clause that who has these terms has the last
-abbrev pub known_clause : List Term → Term → Clause Term
-known_clause ts t = record { hypotheses = map (Att 0) ts; diffs = []; conclusion = Att 0 t }
+-- the clause that who has these terms in the phase has the last
+abbrev pub known_clause : ℕ → List Term → Term → Clause Term
+known_clause phase ts t = record { hypotheses = map (Att phase) ts; diffs = []; conclusion = Att phase t }
 
-pub known_atts : (all : List Term) (ids : List Id) → AreKnown all ids → AreFactsIn all (map (Att 0) ids)
-known_atts all [] known = tt
-known_atts all (id ∷ ids) known = ((known.0, tt), known_atts all ids known.1)
+pub known_atts : (phase : ℕ) (all : List Term) (ids : List Id) → AreKnown all ids → AreFactsIn all (map (Att phase) ids)
+known_atts phase all [] known = tt
+known_atts phase all (id ∷ ids) known = ((known.0, tt), known_atts phase all ids known.1)
 
-atts_at : (all : List Term) (ids : List Id) → map (fact_at all) (map (Att 0) ids) ≡ map (Att 0) (map (tree_at all) ids)
-atts_at all [] = refl
-atts_at all (id ∷ ids) = ap (λ l. Att 0 (tree_at all id) ∷ l) (atts_at all ids)
+atts_at : (phase : ℕ) (all : List Term) (ids : List Id) → map (fact_at all) (map (Att phase) ids) ≡ map (Att phase) (map (tree_at all) ids)
+atts_at phase all [] = refl
+atts_at phase all (id ∷ ids) = ap (λ l. Att phase (tree_at all id) ∷ l) (atts_at phase all ids)
 
-pub atts_named : (all : List Term) (ids : List Id) (facts : List (Fact Id)) → facts ≡ map (Att 0) ids → map (fact_at all) facts ≡ map (Att 0) (map (tree_at all) ids)
-atts_named all ids facts e = ap (map (fact_at all)) e ∙ atts_at all ids
+pub atts_named : (phase : ℕ) (all : List Term) (ids : List Id) (facts : List (Fact Id)) → facts ≡ map (Att phase) ids → map (fact_at all) facts ≡ map (Att phase) (map (tree_at all) ids)
+atts_named phase all ids facts e = ap (map (fact_at all)) e ∙ atts_at phase all ids
 
-abbrev pub single : List (Fact Term) → Term → List (Clause Term)
-single hyps t = record { hypotheses = hyps; diffs = []; conclusion = Att 0 t } ∷ []
+abbrev pub single : ℕ → List (Fact Term) → Term → List (Clause Term)
+single phase hyps t = record { hypotheses = hyps; diffs = []; conclusion = Att phase t } ∷ []
 
 -- ids that are shown as a list keep their terms as the bank grows
 pub shown_known : (a b : List Term) (ids inner shown : List Id) → Grows a b → shown ≡ inner → inner ≡ ids → AreKnown a ids → AreKnown b shown
@@ -55,16 +55,16 @@ variables_on now next ids new i id names grows named e =
     (subst (λ (l : List Id). NameTerms next l (variables_from 0 i ++ Leaf i ∷ [])) (sym e) (NameTerms-push next ids (variables_from 0 i) id (Leaf i) (NameTerms-grows now next ids (variables_from 0 i) grows names) named))
 
 -- what the clauses are
-pub name_listed : (number : ℕ) (d : Declared) (t : Term) → d.public ≡ true → t ≡ free_term number → known_clause [] t ∷ [] ≡ cons_option (name_known (number, d)) []
-name_listed number d t public is = ap (λ u. known_clause [] u ∷ []) is ∙ sym (ap (λ b. cons_option (cond b (Some (known_clause [] (free_term number))) None) []) public)
+pub name_listed : (number : ℕ) (d : Declared) (t : Term) → d.public ≡ true → t ≡ free_term number → known_clause 0 [] t ∷ [] ≡ cons_option (name_known (number, d)) []
+name_listed number d t public is = ap (λ u. known_clause 0 [] u ∷ []) is ∙ sym (ap (λ b. cons_option (cond b (Some (known_clause 0 [] (free_term number))) None) []) public)
 
-pub constructor_listed : (number : ℕ) (d : Declared) (ts : List Term) (t : Term) → (d.public && not d.is_data) ≡ true → ts ≡ variables_from 0 d.arity → t ≡ node (Ctor number) (variables_from 0 d.arity)
-    → known_clause ts t ∷ [] ≡ cons_option (constructor_applied 0 (number, d)) []
-constructor_listed number d ts t applied are is =
+pub constructor_listed : (phase number : ℕ) (d : Declared) (ts : List Term) (t : Term) → (d.public && not d.is_data) ≡ true → ts ≡ variables_from 0 d.arity → t ≡ node (Ctor number) (variables_from 0 d.arity)
+    → known_clause phase ts t ∷ [] ≡ cons_option (constructor_applied phase (number, d)) []
+constructor_listed phase number d ts t applied are is =
     let vs = variables_from 0 d.arity in
-    ap (λ l. known_clause l t ∷ []) are ∙ (ap (λ u. known_clause vs u ∷ []) is ∙ sym (ap (λ b. cons_option (cond b (Some (known_clause vs (node (Ctor number) vs))) None) []) applied))
+    ap (λ l. known_clause phase l t ∷ []) are ∙ (ap (λ u. known_clause phase vs u ∷ []) is ∙ sym (ap (λ b. cons_option (cond b (Some (known_clause phase vs (node (Ctor number) vs))) None) []) applied))
 
-pub rule_listed : (P : Protocol) (rule : Rule) (ts : List Term) (t : Term) → ts ≡ map (rule_term P 0) rule.left → t ≡ rule_term P 0 rule.right → known_clause ts t ∷ [] ≡ rule_applied P 0 rule ∷ []
-rule_listed P rule ts t are is =
-    let left : map (Att 0) (map (rule_term P 0) rule.left) ≡ map (λ u. Att 0 (rule_term P 0 u)) rule.left = map-map (Att 0) (rule_term P 0) rule.left in
-    ap (λ l. known_clause l t ∷ []) are ∙ (ap (λ u. known_clause (map (rule_term P 0) rule.left) u ∷ []) is ∙ ap (λ l. single l (rule_term P 0 rule.right)) left)
+pub rule_listed : (P : Protocol) (phase : ℕ) (rule : Rule) (ts : List Term) (t : Term) → ts ≡ map (rule_term P 0) rule.left → t ≡ rule_term P 0 rule.right → known_clause phase ts t ∷ [] ≡ rule_applied P phase rule ∷ []
+rule_listed P phase rule ts t are is =
+    let left : map (Att phase) (map (rule_term P 0) rule.left) ≡ map (λ u. Att phase (rule_term P 0 u)) rule.left = map-map (Att phase) (rule_term P 0) rule.left in
+    ap (λ l. known_clause phase l t ∷ []) are ∙ (ap (λ u. known_clause phase (map (rule_term P 0) rule.left) u ∷ []) is ∙ ap (λ l. single phase l (rule_term P 0 rule.right)) left)

@@ -7,34 +7,34 @@ ghost use Rattle.term_tree.specs.Bank.{Names, Grows};
 ghost use Rattle.spec_clauses.specs.Fact.{Att, Mess};
 ghost use Rattle.attacker_clauses.specs.Listed.{Adds};
 
-use crate::listing::add_raw;
+use crate::listing::{InPhase, add_raw};
 use clause_form::{Clause, Clauses, Diffs, Fact, Facts};
-use std::alloc::{AllocError, Global};
+use std::alloc::AllocError;
 use term_tree::{Bank, Id};
 
-/// That a message is sent on a channel, and that the attacker has the channel.
-fn heard_facts(alloc: Global, channel: Id, message: Id) -> Result<Facts, AllocError>
-    ensures { IfOk result (λ facts. facts ≡ Mess 0 channel message ∷ Att 0 channel ∷ []) }
+/// That in the phase a message is sent on a channel, and that the attacker has the channel.
+fn heard_facts(at: InPhase, channel: Id, message: Id) -> Result<Facts, AllocError>
+    ensures { IfOk result (λ facts. facts ≡ Mess at.phase channel message ∷ Att at.phase channel ∷ []) }
 {
-    let mut facts = Facts::new(alloc);
-    facts.push(Fact::Mess(0, channel, message))?;
-    facts.push(Fact::Att(0, channel))?;
+    let mut facts = Facts::new(at.alloc);
+    facts.push(Fact::Mess(at.phase, channel, message))?;
+    facts.push(Fact::Att(at.phase, channel))?;
     Ok(facts)
 }
 
-/// That the attacker has a channel and a message.
-fn sent_facts(alloc: Global, channel: Id, message: Id) -> Result<Facts, AllocError>
-    ensures { IfOk result (λ facts. facts ≡ Att 0 channel ∷ Att 0 message ∷ []) }
+/// That in the phase the attacker has a channel and a message.
+fn sent_facts(at: InPhase, channel: Id, message: Id) -> Result<Facts, AllocError>
+    ensures { IfOk result (λ facts. facts ≡ Att at.phase channel ∷ Att at.phase message ∷ []) }
 {
-    let mut facts = Facts::new(alloc);
-    facts.push(Fact::Att(0, channel))?;
-    facts.push(Fact::Att(0, message))?;
+    let mut facts = Facts::new(at.alloc);
+    facts.push(Fact::Att(at.phase, channel))?;
+    facts.push(Fact::Att(at.phase, message))?;
     Ok(facts)
 }
 
-/// Adds that the attacker hears what is sent on a channel that he has. On `Err` the bank may have grown.
+/// Adds that in the phase the attacker hears what is sent on a channel that he has. On `Err` the bank may have grown.
 fn add_heard<B: Bank>(
-    alloc: Global,
+    at: InPhase,
     bank: &mut B,
     channel: Id,
     message: Id,
@@ -44,20 +44,20 @@ fn add_heard<B: Bank>(
     requires message { Names (B.trees bank.old) message (Leaf 1) }
     ensures grows { Grows (B.trees bank.old) (B.trees bank.new) }
     ensures adds { OnOk result (Adds (B.trees bank.old) list.old (B.trees bank.new) list.new
-        (message_heard 0 ∷ [])) }
+        (message_heard at.phase ∷ [])) }
 {
-    let hyps = heard_facts(alloc, channel, message)?;
+    let hyps = heard_facts(at, channel, message)?;
     let raw = Clause {
         hyps,
-        diffs: Diffs::new(alloc),
-        concl: Fact::Att(0, message),
+        diffs: Diffs::new(at.alloc),
+        concl: Fact::Att(at.phase, message),
     };
-    add_raw(alloc, bank, raw, list)
+    add_raw(at.alloc, bank, raw, list)
 }
 
-/// Adds that the attacker sends what he has on a channel that he has. On `Err` the bank may have grown.
+/// Adds that in the phase the attacker sends what he has on a channel that he has. On `Err` the bank may have grown.
 fn add_sent<B: Bank>(
-    alloc: Global,
+    at: InPhase,
     bank: &mut B,
     channel: Id,
     message: Id,
@@ -67,29 +67,29 @@ fn add_sent<B: Bank>(
     requires message { Names (B.trees bank.old) message (Leaf 1) }
     ensures grows { Grows (B.trees bank.old) (B.trees bank.new) }
     ensures adds { OnOk result (Adds (B.trees bank.old) list.old (B.trees bank.new) list.new
-        (message_sent 0 ∷ [])) }
+        (message_sent at.phase ∷ [])) }
 {
-    let hyps = sent_facts(alloc, channel, message)?;
+    let hyps = sent_facts(at, channel, message)?;
     let raw = Clause {
         hyps,
-        diffs: Diffs::new(alloc),
-        concl: Fact::Mess(0, channel, message),
+        diffs: Diffs::new(at.alloc),
+        concl: Fact::Mess(at.phase, channel, message),
     };
-    add_raw(alloc, bank, raw, list)
+    add_raw(at.alloc, bank, raw, list)
 }
 
-/// Adds that the attacker hears and sends. On `Err` the bank may have grown.
+/// Adds that in the phase the attacker hears and sends. On `Err` the bank may have grown.
 pub(crate) fn add_channels<B: Bank>(
-    alloc: Global,
+    at: InPhase,
     bank: &mut B,
     list: &mut Clauses,
 ) -> Result<(), AllocError>
     ensures grows { Grows (B.trees bank.old) (B.trees bank.new) }
     ensures adds { OnOk result (Adds (B.trees bank.old) list.old (B.trees bank.new) list.new
-        (message_heard 0 ∷ message_sent 0 ∷ [])) }
+        (message_heard at.phase ∷ message_sent at.phase ∷ [])) }
 {
     let channel = bank.var(0)?;
     let message = bank.var(1)?;
-    add_heard(alloc, bank, channel, message, list)?;
-    add_sent(alloc, bank, channel, message, list)
+    add_heard(at, bank, channel, message, list)?;
+    add_sent(at, bank, channel, message, list)
 }

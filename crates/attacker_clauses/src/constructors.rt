@@ -8,7 +8,7 @@ ghost use Rattle.clause_form.specs.Seen.{NameTerms};
 ghost use Rattle.pi_tree.specs.Names.{declared_of};
 ghost use Rattle.attacker_clauses.specs.Listed.{Adds};
 
-use crate::listing::add_known;
+use crate::listing::{InPhase, add_known};
 use clause_form::{Clauses, Ids};
 use pi_tree::{Declarations, Declared};
 use std::alloc::{AllocError, Global};
@@ -36,10 +36,10 @@ fn is_applied(declared: &Declared) -> bool
     declared.public && !declared.is_data
 }
 
-/// Adds that the attacker applies a constructor, if it is public and no data constructor. On `Err` the bank may
-/// have grown.
+/// Adds that in the phase the attacker applies a constructor, if it is public and no data constructor. On `Err` the
+/// bank may have grown.
 fn add_constructor<B: Bank>(
-    alloc: Global,
+    at: InPhase,
     bank: &mut B,
     number: u32,
     declared: &Declared,
@@ -47,20 +47,20 @@ fn add_constructor<B: Bank>(
 ) -> Result<(), AllocError>
     ensures grows { Grows (B.trees bank.old) (B.trees bank.new) }
     ensures adds { OnOk result (Adds (B.trees bank.old) list.old (B.trees bank.new) list.new
-        (filter_map (constructor_applied 0) ((number, declared_of declared.now) ∷ []))) }
+        (filter_map (constructor_applied at.phase) ((number, declared_of declared.now) ∷ []))) }
 {
     if !is_applied(declared) {
         return Ok(());
     }
-    let arguments = variables(alloc, bank, declared.arity)?;
+    let arguments = variables(at.alloc, bank, declared.arity)?;
     let made = bank.app(Sym::Ctor(number), &arguments.items)?;
-    add_known(alloc, bank, &arguments.items, made, list)
+    add_known(at, bank, &arguments.items, made, list)
 }
 
-/// Adds that the attacker applies the public constructors that are no data constructors. On `Err` the bank may
-/// have grown.
+/// Adds that in the phase the attacker applies the public constructors that are no data constructors. On `Err` the
+/// bank may have grown.
 pub(crate) fn add_constructors<B: Bank>(
-    alloc: Global,
+    at: InPhase,
     bank: &mut B,
     ctors: &Declarations,
     list: &mut Clauses,
@@ -68,10 +68,10 @@ pub(crate) fn add_constructors<B: Bank>(
     requires { length ctors.now < 2 ^ 32 }
     ensures grows { Grows (B.trees bank.old) (B.trees bank.new) }
     ensures adds { OnOk result (Adds (B.trees bank.old) list.old (B.trees bank.new) list.new
-        (filter_map (constructor_applied 0) (enumerate_from 1 ctors.now))) }
+        (filter_map (constructor_applied at.phase) (enumerate_from 1 ctors.now))) }
 {
     for (index, declared) in ctors.items.iter().enumerate() {
-        add_constructor(alloc, bank, index as u32 + 1, declared, list)?;
+        add_constructor(at, bank, index as u32 + 1, declared, list)?;
     }
     Ok(())
 }

@@ -9,16 +9,16 @@ ghost use Rattle.pi_tree.specs.Protocols.{protocol_of};
 ghost use Rattle.attacker_clauses.specs.Conditions.{CanBeRenamed, CanAllBeRenamed};
 ghost use Rattle.attacker_clauses.specs.Listed.{Adds};
 
-use crate::listing::add_known;
+use crate::listing::{InPhase, add_known};
 use clause_form::Clauses;
 use destructor_rules::rename_rule;
 use pi_tree::{Protocol, Rule, Rules};
-use std::alloc::{AllocError, Global};
+use std::alloc::AllocError;
 use term_tree::Bank;
 
-/// Adds that the attacker applies a rule. On `Err` the bank may have grown.
+/// Adds that in the phase the attacker applies a rule. On `Err` the bank may have grown.
 fn add_rule<B: Bank>(
-    alloc: Global,
+    at: InPhase,
     bank: &mut B,
     protocol: &Protocol,
     rule: &Rule,
@@ -27,15 +27,15 @@ fn add_rule<B: Bank>(
     requires { CanBeRenamed (rule_of rule.now) }
     ensures grows { Grows (B.trees bank.old) (B.trees bank.new) }
     ensures adds { OnOk result (Adds (B.trees bank.old) list.old (B.trees bank.new) list.new
-        (rule_applied (protocol_of protocol.now) 0 (rule_of rule.now) ∷ [])) }
+        (rule_applied (protocol_of protocol.now) at.phase (rule_of rule.now) ∷ [])) }
 {
-    let (left, right) = rename_rule(alloc, bank, protocol, rule, 0)?;
-    add_known(alloc, bank, &left.items, right, list)
+    let (left, right) = rename_rule(at.alloc, bank, protocol, rule, 0)?;
+    add_known(at, bank, &left.items, right, list)
 }
 
-/// Adds that the attacker applies the rules of a destructor. On `Err` the bank may have grown.
+/// Adds that in the phase the attacker applies the rules of a destructor. On `Err` the bank may have grown.
 fn add_rules<B: Bank>(
-    alloc: Global,
+    at: InPhase,
     bank: &mut B,
     protocol: &Protocol,
     rules: &Rules,
@@ -44,17 +44,17 @@ fn add_rules<B: Bank>(
     requires { AllByRecursion CanBeRenamed rules.now }
     ensures grows { Grows (B.trees bank.old) (B.trees bank.new) }
     ensures adds { OnOk result (Adds (B.trees bank.old) list.old (B.trees bank.new) list.new
-        (map (rule_applied (protocol_of protocol.now) 0) rules.now)) }
+        (map (rule_applied (protocol_of protocol.now) at.phase) rules.now)) }
 {
     for rule in &rules.items {
-        add_rule(alloc, bank, protocol, rule, list)?;
+        add_rule(at, bank, protocol, rule, list)?;
     }
     Ok(())
 }
 
-/// Adds that the attacker applies the rules of the destructors. On `Err` the bank may have grown.
+/// Adds that in the phase the attacker applies the rules of the destructors. On `Err` the bank may have grown.
 pub(crate) fn add_destructors<B: Bank>(
-    alloc: Global,
+    at: InPhase,
     bank: &mut B,
     protocol: &Protocol,
     list: &mut Clauses,
@@ -62,11 +62,11 @@ pub(crate) fn add_destructors<B: Bank>(
     requires { AllByRecursion CanAllBeRenamed (protocol_of protocol.now).destructors }
     ensures grows { Grows (B.trees bank.old) (B.trees bank.new) }
     ensures adds { OnOk result (Adds (B.trees bank.old) list.old (B.trees bank.new) list.new
-        (flat_map (λ destructor. map (rule_applied (protocol_of protocol.now) 0) destructor.rules)
+        (flat_map (λ destructor. map (rule_applied (protocol_of protocol.now) at.phase) destructor.rules)
         (protocol_of protocol.now).destructors)) }
 {
     for destructor in &protocol.dtors.items {
-        add_rules(alloc, bank, protocol, &destructor.rules, list)?;
+        add_rules(at, bank, protocol, &destructor.rules, list)?;
     }
     Ok(())
 }

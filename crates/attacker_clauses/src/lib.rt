@@ -1,5 +1,5 @@
-//! The attacker's clauses: what he has at first, what he makes, and what he sends and receives
-//! (Blanchet 2016, section 3.3.1).
+//! The attacker's clauses: what he has at first, what he makes, what he sends and receives, and what he keeps from phase to
+//! phase (Blanchet 2016, sections 3.3.1 and 4.1.5).
 #![tactic(auto)]
 
 ghost use Rattle.std.specs.Prelude.{◌≡◌, ◌^◌, ◌<◌, length, IfOk, OnErr};
@@ -20,11 +20,11 @@ mod constructors;
 mod destructors;
 mod listing;
 mod names;
+mod phases;
 
-use crate::channels::add_channels;
-use crate::constructors::add_constructors;
-use crate::destructors::add_destructors;
+use crate::listing::InPhase;
 use crate::names::{add_names, add_own_names};
+use crate::phases::{add_later_phases, add_phase};
 use clause_form::Clauses;
 use pi_tree::Protocol;
 use std::alloc::{AllocError, Global};
@@ -48,15 +48,16 @@ fn list_grown<B: Bank>(
     };
     add_names(alloc, bank, &protocol.frees, &mut list)?;
     add_own_names(alloc, bank, &mut list)?;
-    add_constructors(alloc, bank, &protocol.ctors, &mut list)?;
-    add_destructors(alloc, bank, protocol, &mut list)?;
-    add_channels(alloc, bank, &mut list)?;
+    let first = InPhase { alloc, phase: 0 };
+    add_phase(first, bank, protocol, &mut list)?;
+    add_later_phases(alloc, bank, protocol, &mut list)?;
     Ok(list)
 }
 
 /// The attacker's clauses, in order: that he has the public free names and names of his own; that he applies the public
 /// constructors that are no data constructors, and the rules of the destructors; that he hears and sends on channels
-/// that he has. The numbers of their variables are low.
+/// that he has; and for each later phase, up to the greatest, that he keeps what he has in the phase before, and can do the
+/// same in that one. The numbers of their variables are low.
 ///
 /// The conditions hold of each protocol that is read. `Err` comes only for want of memory; then the bank is as before.
 pub fn attacker_list<B: Bank>(

@@ -45,20 +45,27 @@ pub(crate) fn add_raw<B: Bank>(
     added
 }
 
-/// That the attacker has each of these terms.
-fn known_facts(alloc: Global, terms: &[Id]) -> Result<Facts, AllocError>
-    ensures { IfOk result (λ facts. facts ≡ map (Att 0) terms.now) }
+/// The phase of the facts that are made, and the allocator of what is made.
+#[derive(Clone, Copy)]
+pub(crate) struct InPhase {
+    pub alloc: Global,
+    pub phase: u32,
+}
+
+/// That the attacker has each of these terms in the phase.
+fn known_facts(at: InPhase, terms: &[Id]) -> Result<Facts, AllocError>
+    ensures { IfOk result (λ facts. facts ≡ map (Att at.phase) terms.now) }
 {
-    let mut facts = Facts::new(alloc);
+    let mut facts = Facts::new(at.alloc);
     for term in terms {
-        facts.push(Fact::Att(0, *term))?;
+        facts.push(Fact::Att(at.phase, *term))?;
     }
     Ok(facts)
 }
 
-/// Adds that the attacker has the last term where he has the others. On `Err` the bank may have grown.
+/// Adds that in the phase the attacker has the last term where he has the others. On `Err` the bank may have grown.
 pub(crate) fn add_known<B: Bank>(
-    alloc: Global,
+    at: InPhase,
     bank: &mut B,
     terms: &[Id],
     last: Id,
@@ -69,17 +76,17 @@ pub(crate) fn add_known<B: Bank>(
     ensures grows { Grows (B.trees bank.old) (B.trees bank.new) }
     ensures adds { OnOk result (Adds (B.trees bank.old) list.old (B.trees bank.new) list.new
         (record {
-          hypotheses = map (Att 0) (map (tree_at (B.trees bank.old)) terms.now);
+          hypotheses = map (Att at.phase) (map (tree_at (B.trees bank.old)) terms.now);
           diffs = [];
           conclusion =
-              Att 0 (tree_at (B.trees bank.old) last);
+              Att at.phase (tree_at (B.trees bank.old) last);
         } ∷ [])) }
 {
-    let hyps = known_facts(alloc, terms)?;
+    let hyps = known_facts(at, terms)?;
     let raw = Clause {
         hyps,
-        diffs: Diffs::new(alloc),
-        concl: Fact::Att(0, last),
+        diffs: Diffs::new(at.alloc),
+        concl: Fact::Att(at.phase, last),
     };
-    add_raw(alloc, bank, raw, list)
+    add_raw(at.alloc, bank, raw, list)
 }

@@ -7,7 +7,7 @@ ghost use Rattle.term_tree.specs.Bank.{Grows};
 ghost use Rattle.pi_tree.specs.Names.{declared_of};
 ghost use Rattle.attacker_clauses.specs.Listed.{Adds};
 
-use crate::listing::add_known;
+use crate::listing::{InPhase, add_known};
 use clause_form::Clauses;
 use pi_tree::{Declarations, Declared};
 use std::alloc::{AllocError, Global};
@@ -29,7 +29,7 @@ fn add_name<B: Bank>(
         return Ok(());
     }
     let name = bank.app(Sym::Free(number), &[])?;
-    add_known(alloc, bank, &[], name, list)
+    add_known(InPhase { alloc, phase: 0 }, bank, &[], name, list)
 }
 
 /// Adds that the attacker has the public free names. On `Err` the bank may have grown.
@@ -62,5 +62,5 @@ pub(crate) fn add_own_names<B: Bank>(
 {
     let variable = bank.var(0)?;
     let name = bank.app(Sym::Attacker, &[variable])?;
-    add_known(alloc, bank, &[], name, list)
+    add_known(InPhase { alloc, phase: 0 }, bank, &[], name, list)
 }

@@ -6,14 +6,14 @@ use Rattle.std.proofs.lemmas.Grind.{flat_map-append}
 use Rattle.spec_calculus.specs.Syntax.{Protocol}
 use Rattle.spec_terms.specs.Term.{Term}
 use Rattle.spec_clauses.specs.Diff.{Diff}
-use Rattle.spec_clauses.specs.Fact.{Fact, Mess, Tab, Ev, Mev, Bad, Clause, terms_of}
+use Rattle.spec_clauses.specs.Fact.{Fact, Att, Mess, Tab, Ev, Mev, Bad, Clause, terms_of}
 use Rattle.clause_diffs.specs.declared.plain.Tree.{Tree}
 use Rattle.clause_form.specs.declared.plain.PlainFact.{PlainFact}
 use Rattle.clause_form.specs.Plain.{term_of}
 use Rattle.clause_form.specs.PlainFacts.{plain_fact_of}
-use Rattle.spec_certificate_text.specs.Words.{event_word}
+use Rattle.spec_certificate_text.specs.Text.{phase_text}
 use Rattle.spec_node_tables.specs.Table.{facts_in_order, terms_in_order}
-use Rattle.spec_node_tables.specs.Text.{terms_text, event_over, fact_over, hypotheses_over, clause_over, clause_lines_over}
+use Rattle.spec_node_tables.specs.Text.{terms_text, word_over, event_over, entry_over, fact_over, hypotheses_over, clause_over, clause_lines_over}
 use Rattle.cert_form.specs.Appends.{Appends}
 use Rattle.cert_form.specs.Parts.{is_alone, word_opening, word_closing, comma_at, gap_at, gap_behind}
 use Rattle.cert_form.specs.Remaining.{terms_from, hypotheses_from, clauses_from}
@@ -65,24 +65,28 @@ module _ (kept_of : List Term → List Term) (all_one : Protocol → List Term �
       ends o zero rest = refl
       ends o (suc m) rest = refl
 
-  -- an event over terms
-  pub event_written : (e : ℕ) (ts : List Term) (kept now : List Term) (start opened listed after word : List ℕ) (alone : Bool) → word ≡ event_word P e → alone ≡ is_alone ts → Appends (word_opening word alone) start opened → Writes kept_of one ts (λ o. terms_text o P ts) kept now opened listed → Appends (word_closing alone) listed after
-      → Writes kept_of one ts (λ o. event_over o P e ts) kept now start after
-  event_written e ts kept now start opened listed after word alone named is opening terms closing =
-      written_as kept_of one ts ts (λ o rest. word_opening (event_word P e) (is_alone ts) (terms_text o P ts (word_closing (is_alone ts) rest))) (λ o. event_over o P e ts) kept now start after refl (parts ts)
-      (between kept_of one (word_opening (event_word P e) (is_alone ts)) ts (λ o. terms_text o P ts) (word_closing (is_alone ts)) kept now start opened listed after
-      (subst (λ b. Appends (word_opening (event_word P e) b) start opened) is (subst (λ w. Appends (word_opening w alone) start opened) named opening)) terms (subst (λ b. Appends (word_closing b) listed after) is closing))
+  -- a word over terms
+  pub word_written : (name : List ℕ) (ts : List Term) (kept now : List Term) (start opened listed after word : List ℕ) (alone : Bool) → word ≡ name → alone ≡ is_alone ts → Appends (word_opening word alone) start opened → Writes kept_of one ts (λ o. terms_text o P ts) kept now opened listed → Appends (word_closing alone) listed after
+      → Writes kept_of one ts (λ o. word_over o P name ts) kept now start after
+  word_written name ts kept now start opened listed after word alone named is opening terms closing =
+      written_as kept_of one ts ts (λ o rest. word_opening name (is_alone ts) (terms_text o P ts (word_closing (is_alone ts) rest))) (λ o. word_over o P name ts) kept now start after refl (parts ts)
+      (between kept_of one (word_opening name (is_alone ts)) ts (λ o. terms_text o P ts) (word_closing (is_alone ts)) kept now start opened listed after
+      (subst (λ b. Appends (word_opening name b) start opened) is (subst (λ w. Appends (word_opening w alone) start opened) named opening)) terms (subst (λ b. Appends (word_closing b) listed after) is closing))
     where
-      parts : (us : List Term) (o : One) (rest : List ℕ) → word_opening (event_word P e) (is_alone us) (terms_text o P us (word_closing (is_alone us) rest)) ≡ event_over o P e us rest
+      parts : (us : List Term) (o : One) (rest : List ℕ) → word_opening name (is_alone us) (terms_text o P us (word_closing (is_alone us) rest)) ≡ word_over o P name us rest
       parts [] o rest = refl
       parts (u ∷ us) o rest = refl
 
   -- Facts, by what is written before, between and behind their terms.
 
-  pub mess_written : (f : Fact Term) (phase : ℕ) (t u : Term) (k m l : List Term) (a b c d e g : List ℕ) → f ≡ Mess phase t u → Appends (λ rest. codes "mess(" ++ rest) a b → Writes kept_of one (t ∷ []) (λ o. o t) k m b c → Appends (λ rest. codes "," ++ rest) c d → Writes kept_of one (u ∷ []) (λ o. o u) m l d e → Appends (λ rest. codes ")" ++ rest) e g
+  pub att_written : (f : Fact Term) (phase : ℕ) (t : Term) (k l : List Term) (a b c d : List ℕ) → f ≡ Att phase t → Appends (λ rest. codes "att" ++ phase_text phase (40 ∷ rest)) a b → Writes kept_of one (t ∷ []) (λ o. o t) k l b c → Appends (λ rest. codes ")" ++ rest) c d → Writes kept_of one (terms_of f) (λ o. fact_over o P f) k l a d
+  att_written f phase t k l a b c d is opening text closing = subst (λ g. Writes kept_of one (terms_of g) (λ o. fact_over o P g) k l a d) (sym is)
+      (between kept_of one (λ rest. codes "att" ++ phase_text phase (40 ∷ rest)) (t ∷ []) (λ o. o t) (λ rest. codes ")" ++ rest) k l a b c d opening text closing)
+
+  pub mess_written : (f : Fact Term) (phase : ℕ) (t u : Term) (k m l : List Term) (a b c d e g : List ℕ) → f ≡ Mess phase t u → Appends (λ rest. codes "mess" ++ phase_text phase (40 ∷ rest)) a b → Writes kept_of one (t ∷ []) (λ o. o t) k m b c → Appends (λ rest. codes "," ++ rest) c d → Writes kept_of one (u ∷ []) (λ o. o u) m l d e → Appends (λ rest. codes ")" ++ rest) e g
       → Writes kept_of one (terms_of f) (λ o. fact_over o P f) k l a g
   mess_written f phase t u k m l a b c d e g is opening first comma second closing = subst (λ h. Writes kept_of one (terms_of h) (λ o. fact_over o P h) k l a g) (sym is)
-      (between kept_of one (λ rest. codes "mess(" ++ rest) (t ∷ u ∷ []) (λ o rest. o t (codes "," ++ o u rest)) (λ rest. codes ")" ++ rest) k l a b e g opening
+      (between kept_of one (λ rest. codes "mess" ++ phase_text phase (40 ∷ rest)) (t ∷ u ∷ []) (λ o rest. o t (codes "," ++ o u rest)) (λ rest. codes ")" ++ rest) k l a b e g opening
       (and_then kept_of one (t ∷ []) (u ∷ []) (λ o. o t) (λ o rest. codes "," ++ o u rest) k m l b c e first
       (bytes_then kept_of one (λ rest. codes "," ++ rest) (u ∷ []) (λ o. o u) m l c d e comma second)) closing)
 
@@ -94,9 +98,9 @@ module _ (kept_of : List Term → List Term) (all_one : Protocol → List Term �
   mev_written f e ts k l a b c d is opening text closing = subst (λ g. Writes kept_of one (terms_of g) (λ o. fact_over o P g) k l a d) (sym is)
       (between kept_of one (λ rest. codes "mev(" ++ rest) ts (λ o. event_over o P e ts) (λ rest. codes ")" ++ rest) k l a b c d opening text closing)
 
-  pub tab_written : (f : Fact Term) (n : ℕ) (ts : List Term) (k l : List Term) (a b c d : List ℕ) → f ≡ Tab n ts → Appends (λ rest. codes "tab(" ++ rest) a b → Writes kept_of one ts (λ o. terms_text o P ts) k l b c → Appends (λ rest. codes ")" ++ rest) c d → Writes kept_of one (terms_of f) (λ o. fact_over o P f) k l a d
+  pub tab_written : (f : Fact Term) (n : ℕ) (ts : List Term) (k l : List Term) (a b c d : List ℕ) → f ≡ Tab n ts → Appends (λ rest. codes "tab(" ++ rest) a b → Writes kept_of one ts (λ o. entry_over o P n ts) k l b c → Appends (λ rest. codes ")" ++ rest) c d → Writes kept_of one (terms_of f) (λ o. fact_over o P f) k l a d
   tab_written f n ts k l a b c d is opening text closing = subst (λ g. Writes kept_of one (terms_of g) (λ o. fact_over o P g) k l a d) (sym is)
-      (between kept_of one (λ rest. codes "tab(" ++ rest) ts (λ o. terms_text o P ts) (λ rest. codes ")" ++ rest) k l a b c d opening text closing)
+      (between kept_of one (λ rest. codes "tab(" ++ rest) ts (λ o. entry_over o P n ts) (λ rest. codes ")" ++ rest) k l a b c d opening text closing)
 
   pub bad_written : (f : Fact Term) (ts : List Term) (k l : List Term) (a b c d : List ℕ) → f ≡ Bad ts → Appends (λ rest. codes "bad(" ++ rest) a b → Writes kept_of one ts (λ o. terms_text o P ts) k l b c → Appends (λ rest. codes ")" ++ rest) c d → Writes kept_of one (terms_of f) (λ o. fact_over o P f) k l a d
   bad_written f ts k l a b c d is opening text closing = subst (λ g. Writes kept_of one (terms_of g) (λ o. fact_over o P g) k l a d) (sym is)

@@ -7,11 +7,11 @@ use Rattle.spec_calculus.specs.Syntax.{Protocol}
 use Rattle.spec_terms.specs.Term.{Term}
 use Rattle.spec_clauses.specs.Fact.{Fact, Att, Mess, Tab, Ev, Mev, Bad, Clause, map_fact, map_clause}
 use Rattle.spec_certificates.specs.Certificate.{Certificate}
-use Rattle.spec_certificate_text.specs.Words.{event_word}
+use Rattle.spec_certificate_text.specs.Words.{event_word, table_word}
 use Rattle.spec_certificate_text.specs.Text.{term_text, clause_text, clause_lines, row_lines, certificate_text}
 use Rattle.spec_node_tables.specs.Table.{table, terms_in_order, number_in}
 use Rattle.spec_node_tables.specs.Nodes.{node_of}
-use Rattle.spec_node_tables.specs.Text.{later_terms, terms_text, event_over, fact_over, later_hypotheses, hypotheses_over, clause_over, clause_lines_over, number_text, node_lines, text_with_nodes}
+use Rattle.spec_node_tables.specs.Text.{later_terms, terms_text, word_over, fact_over, later_hypotheses, hypotheses_over, clause_over, clause_lines_over, number_text, node_lines, text_with_nodes}
 use Rattle.spec_node_tables.proofs.Alike.{clause_alike}
 use Rattle.node_table.specs.Entered.{table_of}
 use Rattle.cert_form.specs.Appends.{Appends}
@@ -66,16 +66,16 @@ module _ (number : Term → ℕ) (P : Protocol) where
   terms_mapped [] k = refl
   terms_mapped (t ∷ ts) k = ap (λ r. numbered t r) (later_mapped ts k)
 
-  event_mapped : (e : ℕ) (ts : List Term) (k : List ℕ) → event_over numbered P e ts k ≡ event_over number_text P e (map number ts) k
-  event_mapped e [] k = refl
-  event_mapped e (t ∷ ts) k = ap (λ r. event_word P e ++ (40 ∷ r)) (terms_mapped (t ∷ ts) (41 ∷ k))
+  word_mapped : (word : List ℕ) (ts : List Term) (k : List ℕ) → word_over numbered P word ts k ≡ word_over number_text P word (map number ts) k
+  word_mapped word [] k = refl
+  word_mapped word (t ∷ ts) k = ap (λ r. word ++ (40 ∷ r)) (terms_mapped (t ∷ ts) (41 ∷ k))
 
   fact_mapped : (f : Fact Term) (k : List ℕ) → fact_over numbered P f k ≡ fact_over number_text P (map_fact number f) k
   fact_mapped (Att phase t) k = refl
   fact_mapped (Mess phase t u) k = refl
-  fact_mapped (Tab n ts) k = ap (λ r. codes "tab(" ++ r) (terms_mapped ts (41 ∷ k))
-  fact_mapped (Ev e ts) k = ap (λ r. codes "ev(" ++ r) (event_mapped e ts (41 ∷ k))
-  fact_mapped (Mev e ts) k = ap (λ r. codes "mev(" ++ r) (event_mapped e ts (41 ∷ k))
+  fact_mapped (Tab n ts) k = ap (λ r. codes "tab(" ++ r) (word_mapped (table_word P n) ts (41 ∷ k))
+  fact_mapped (Ev e ts) k = ap (λ r. codes "ev(" ++ r) (word_mapped (event_word P e) ts (41 ∷ k))
+  fact_mapped (Mev e ts) k = ap (λ r. codes "mev(" ++ r) (word_mapped (event_word P e) ts (41 ∷ k))
   fact_mapped (Bad ts) k = ap (λ r. codes "bad(" ++ r) (terms_mapped ts (41 ∷ k))
 
   later_hypotheses_mapped : (hs : List (Fact Term)) (k : List ℕ) → later_hypotheses numbered P hs k ≡ later_hypotheses number_text P (map (map_fact number) hs) k

@@ -1,17 +1,19 @@
 //! The texts of facts and clauses, whatever the way in which terms are written.
 
-ghost use Rattle.std.specs.Prelude.{◌≡◌, [], ◌++◌, flat_map, IfOk, OnOk};
+ghost use Rattle.std.specs.Prelude.{◌≡◌, [], ◌∷◌, ◌++◌, flat_map, IfOk, OnOk};
 ghost use Rattle.pi_tree.specs.Protocols.{protocol_of};
 ghost use Rattle.spec_clauses.specs.Fact.{terms_of};
 ghost use Rattle.clause_form.specs.PlainFacts.{plain_fact_of};
-ghost use Rattle.spec_certificate_text.specs.Text.{clause_text};
+ghost use Rattle.spec_certificate_text.specs.Text.{phase_text, clause_text};
 ghost use Rattle.spec_node_tables.specs.Table.{facts_in_order, terms_in_order};
-ghost use Rattle.spec_node_tables.specs.Text.{terms_text, event_over, fact_over, hypotheses_over, clause_over, clause_lines_over};
+ghost use Rattle.spec_node_tables.specs.Text.{terms_text, word_over, event_over, entry_over, fact_over, hypotheses_over, clause_over, clause_lines_over};
 ghost use Rattle.cert_form.specs.Appends.{Appends};
 ghost use Rattle.cert_form.specs.Writing.{Writes};
 
 use crate::certs::PlainClauses;
-use crate::parts::{is_alone, put, put_comma, put_gap, put_gap_end, put_word, put_word_end};
+use crate::parts::{
+    is_alone, put, put_comma, put_gap, put_gap_end, put_number, put_word, put_word_end,
+};
 use crate::words::declared_word;
 use crate::writing::{Spelled, TermWriter};
 use clause_form::{PlainClause, PlainFact, PlainFacts, Trees};
@@ -37,6 +39,24 @@ fn put_terms<T: TermWriter>(
     Ok(())
 }
 
+/// Puts the text of a word over terms.
+fn put_call<T: TermWriter>(
+    out: &mut Vec<u8>,
+    protocol: &Protocol,
+    writer: &mut T,
+    word: &[u8],
+    arguments: &Trees,
+) -> Result<(), AllocError>
+    ensures { OnOk result (Writes T.kept_of (T.one (protocol_of protocol.now)) arguments.now
+        (λ one. word_over one (protocol_of protocol.now) word.now arguments.now)
+        (T.kept writer.old) (T.kept writer.new) out.old.items out.new.items) }
+{
+    let alone = is_alone(arguments);
+    put_word(out, word, alone)?;
+    put_terms(out, protocol, writer, arguments)?;
+    put_word_end(out, alone)
+}
+
 /// Puts the text of an event of terms.
 fn put_event<T: TermWriter>(
     out: &mut Vec<u8>,
@@ -49,10 +69,55 @@ fn put_event<T: TermWriter>(
         (λ one. event_over one (protocol_of protocol.now) event arguments.now)
         (T.kept writer.old) (T.kept writer.new) out.old.items out.new.items) }
 {
-    let alone = is_alone(arguments);
-    put_word(out, declared_word(&protocol.events, event), alone)?;
-    put_terms(out, protocol, writer, arguments)?;
-    put_word_end(out, alone)
+    put_call(
+        out,
+        protocol,
+        writer,
+        declared_word(&protocol.events, event),
+        arguments,
+    )
+}
+
+/// Puts the text of an entry of a table.
+fn put_entry<T: TermWriter>(
+    out: &mut Vec<u8>,
+    protocol: &Protocol,
+    writer: &mut T,
+    table: u32,
+    arguments: &Trees,
+) -> Result<(), AllocError>
+    ensures { OnOk result (Writes T.kept_of (T.one (protocol_of protocol.now)) arguments.now
+        (λ one. entry_over one (protocol_of protocol.now) table arguments.now)
+        (T.kept writer.old) (T.kept writer.new) out.old.items out.new.items) }
+{
+    put_call(
+        out,
+        protocol,
+        writer,
+        declared_word(&protocol.tables, table),
+        arguments,
+    )
+}
+
+/// Puts the phase of a predicate, which for phase 0 is nothing.
+fn put_phase(out: &mut Vec<u8>, phase: u32) -> Result<(), AllocError>
+    ensures { OnOk result (Appends (phase_text phase) out.old.items out.new.items) }
+{
+    if phase == 0 {
+        return Ok(());
+    }
+    put(out, b"@")?;
+    put_number(out, u64::from(phase))
+}
+
+/// Puts a predicate with its phase, and `(`.
+fn put_predicate(out: &mut Vec<u8>, word: &[u8], phase: u32) -> Result<(), AllocError>
+    ensures { OnOk result (Appends (λ rest. word.now ++ phase_text phase (40 ∷ rest))
+        out.old.items out.new.items) }
+{
+    put(out, word)?;
+    put_phase(out, phase)?;
+    put(out, b"(")
 }
 
 /// Puts the text of a fact.
@@ -68,21 +133,21 @@ fn put_fact<T: TermWriter>(
         (T.kept writer.old) (T.kept writer.new) out.old.items out.new.items) }
 {
     match fact {
-        PlainFact::Att(_, term) => {
-            put(out, b"att(")?;
+        PlainFact::Att(phase, term) => {
+            put_predicate(out, b"att", *phase)?;
             writer.put_term(out, protocol, term)?;
             put(out, b")")
         }
-        PlainFact::Mess(_, channel, message) => {
-            put(out, b"mess(")?;
+        PlainFact::Mess(phase, channel, message) => {
+            put_predicate(out, b"mess", *phase)?;
             writer.put_term(out, protocol, channel)?;
             put(out, b",")?;
             writer.put_term(out, protocol, message)?;
             put(out, b")")
         }
-        PlainFact::Tab(_, arguments) => {
+        PlainFact::Tab(table, arguments) => {
             put(out, b"tab(")?;
-            put_terms(out, protocol, writer, arguments)?;
+            put_entry(out, protocol, writer, *table, arguments)?;
             put(out, b")")
         }
         PlainFact::Ev(event, arguments) => {

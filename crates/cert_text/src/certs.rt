@@ -151,7 +151,13 @@ fn certificate_at(
     ensures within { StopsWithin bytes.now result }
 {
     let mut cursor = Cursor { bytes, at };
-    let found = certificate(&Names { alloc, protocol }, &mut cursor)?;
+    let greatest = protocol.greatest_phase();
+    let names = Names {
+        alloc,
+        protocol,
+        greatest,
+    };
+    let found = certificate(&names, &mut cursor)?;
     let cert = found.spelled_out(alloc)?;
     Ok((cert, cursor.at))
 }

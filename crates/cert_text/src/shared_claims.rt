@@ -210,7 +210,13 @@ fn report_claims(
     ensures { GivesShared result (read_report_in_both (protocol_of protocol.now) bytes.now) }
 {
     let mut cursor = Cursor { bytes, at: 0 };
-    all_claims(&Names { alloc, protocol }, &mut cursor)
+    let greatest = protocol.greatest_phase();
+    let names = Names {
+        alloc,
+        protocol,
+        greatest,
+    };
+    all_claims(&names, &mut cursor)
 }
 
 /// The claims of a report, one for each query of the protocol; or the first fault. It reads as `read_report` does, in time and

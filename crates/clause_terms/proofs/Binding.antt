@@ -6,6 +6,8 @@ use Rattle.std.proofs.lemmas.List.Folds.{flat_map-map}
 use Rattle.spec_trees.specs.Tree.{Leaf, Node, trees}
 use Rattle.spec_trees.specs.Leaves.{leaves, row_leaves}
 use Rattle.spec_calculus.specs.Syntax.{Name, Symbol, Variable, Bind, Pattern}
+use Rattle.spec_calculus.specs.Syntax as calculus
+use Rattle.spec_calculus.specs.Tables.{row_pattern}
 use Rattle.spec_terms.specs.Term.{Term}
 use Rattle.spec_translation.specs.Conversion.{Scope, Fresh, fresh_leaf, hole_standing, pattern_scope}
 use Rattle.term_tree.specs.Bank.{Names, Grows}
@@ -69,3 +71,8 @@ hole_bound at old now first scope p i h (Err failed) is grows named name pushed 
 -- what is bound is added to nothing
 pub bound_alone : (at : Fresh) (old now : List Term) (first scope : List Held) (p : Pattern) → first ≡ [] → ((before : Scope) → NamesScope old first before → NamesScope now scope (before ++ pattern_scope at p)) → NamesScope now scope (pattern_scope at p)
 bound_alone at old now first scope p none adds = adds [] (subst (λ (l : List Held). NamesScope old l []) (sym none) (record { known = tt; is = refl }))
+
+pub row_alone : (at : Fresh) (old now : List Term) (first scope : List Held) (ps : List Pattern) → first ≡ [] → ((before : Scope) → NamesScope old first before → NamesScope now scope (before ++ flat_map (pattern_scope at) ps)) → NamesScope now scope (pattern_scope at (row_pattern ps))
+row_alone at old now first scope ps none adds =
+    subst (λ (l : Scope). NamesScope now scope l) (node_scope at (row_pattern ps) calculus.Tuple ps refl)
+    (adds [] (subst (λ (l : List Held). NamesScope old l []) (sym none) (record { known = tt; is = refl })))

@@ -4,7 +4,8 @@ use Rattle.std.specs.List.{AllByRecursion}
 use Rattle.spec_trees.specs.Tree.{Tree, Trees, Leaf, Node, none, more, trees, size, sizes}
 use Rattle.spec_trees.specs.Leaves.{leaves, row_leaves}
 use Rattle.spec_calculus.specs.Bounds.{most_written_symbols}
-use Rattle.spec_calculus.specs.Syntax.{Name, Free, Made, Variable, Symbol, Constructor, Tuple, Hole, Bind, Equal, Pattern, Rule, EventTerm, Protocol}
+use Rattle.spec_calculus.specs.Tables.{row_pattern}
+use Rattle.spec_calculus.specs.Syntax.{Name, Free, Made, Variable, Symbol, Constructor, Tuple, Hole, Bind, Equal, Pattern, Rule, Protocol}
 use Rattle.spec_calculus.specs.Syntax as calculus
 use Rattle.spec_well_formed.specs.Signature.{Signature}
 use Rattle.spec_well_formed.specs.Leaves.{leaves_of, AreNumberedBehind}
@@ -12,7 +13,7 @@ use Rattle.spec_well_formed.specs.Terms.{EachSymbol, EachSymbolInRow, TakesArgum
 use Rattle.spec_well_formed.specs.Rules.{IsVariable, rule_leaves, IsProperRule}
 use Rattle.spec_well_formed.specs.WellFormed.{IsRuleOver}
 use Rattle.spec_well_formed.specs.Limits.{IsSmallRule}
-use Rattle.spec_clauses.proofs.Lists.{all_weaker}
+use Rattle.spec_clauses.proofs.Lists.{all_weaker, all_first, all_second}
 use Rattle.spec_translation.specs.Conversion.{converted, rule_leaf, rule_term}
 use Rattle.spec_translation.specs.Goal.{query_leaf, query_term}
 use Rattle.clause_terms.specs.Conditions.{IsShort, HasShortTuples, IsShortHole, IsShortPattern, IsShortRule, IsRoomFor, HasRoomForRule}
@@ -50,6 +51,17 @@ short_pattern signature bound p below = record {
   tuples = each_weaker (TakesPatterns signature) IsShort (short_pattern_symbol signature) p below.arities;
   holes = all_weaker (IsHoleBelow signature bound) IsShortHole (short_hole signature bound) (leaves p) below.holes;
 }
+
+-- and so is each pattern of a row
+pub short_row : (signature : Signature) (bound : List Name) (ps : List Pattern) → AllByRecursion (IsHoleBelow signature bound) (leaves (row_pattern ps)) → EachSymbolInRow (TakesPatterns signature) (trees ps) → AllByRecursion IsShortPattern ps
+short_row signature bound [] holes arities = tt
+short_row signature bound (p ∷ ps) holes arities = (
+  record {
+    tuples = each_weaker (TakesPatterns signature) IsShort (short_pattern_symbol signature) p arities.0;
+    holes = all_weaker (IsHoleBelow signature bound) IsShortHole (short_hole signature bound) (leaves p) (all_first (IsHoleBelow signature bound) (leaves p) (leaves (row_pattern ps)) holes);
+  },
+  short_row signature bound ps (all_second (IsHoleBelow signature bound) (leaves p) (leaves (row_pattern ps)) holes) arities.1,
+)
 
 pub short_rule : (signature : Signature) (rule : Rule) → IsRuleOver signature rule → IsShortRule rule
 short_rule signature rule over = record { left = short_terms signature IsVariable rule.left over.left; right = short_term signature IsVariable rule.right over.right }

@@ -2,6 +2,7 @@
 
 ghost use Rattle.std.specs.Prelude.{◌≡◌, List, ◌++◌, flat_map, IfOk, OnOk, OnErr};
 ghost use Rattle.std.specs.List.{AllByRecursion};
+ghost use Rattle.spec_calculus.specs.Tables.{row_pattern};
 ghost use Rattle.spec_translation.specs.Conversion as translation;
 ghost use Rattle.term_tree.specs.Bank.{Grows};
 ghost use Rattle.pi_tree.specs.Patterns.{pattern_of};
@@ -77,6 +78,23 @@ fn scope_grown<B: Bank>(
 {
     let mut scope = Scope::new(alloc);
     add_bound(bank, at, pattern, &mut scope)?;
+    Ok(scope)
+}
+
+/// What patterns bind in a row. On `Err` the bank may have grown.
+pub fn row_scope<B: Bank>(
+    alloc: Global,
+    bank: &mut B,
+    at: Fresh,
+    patterns: &Pats,
+) -> Result<Scope, AllocError>
+    requires room { AllByRecursion (HasRoomAt (fresh_of at)) patterns.now }
+    ensures grows { Grows (B.trees bank.old) (B.trees bank.new) }
+    ensures names { IfOk result (λ scope. NamesScope (B.trees bank.new) scope
+        (translation.pattern_scope (fresh_of at) (row_pattern patterns.now))) }
+{
+    let mut scope = Scope::new(alloc);
+    add_all_bound(bank, at, patterns, &mut scope)?;
     Ok(scope)
 }
 

@@ -28,9 +28,9 @@ pub mod scopes;
 mod sizes;
 mod symbols;
 
-pub use crate::bound::pattern_scope;
+pub use crate::bound::{pattern_scope, row_scope};
 pub use crate::in_scope::{term_in, terms_in};
-pub use crate::patterns::{Fresh, Holes, pattern_term};
+pub use crate::patterns::{Fresh, Holes, pattern_term, patterns_grown};
 pub use crate::rules::{rule_term, rule_terms};
 pub use crate::scopes::{Scope, Standing};
 pub use crate::sizes::size_in;

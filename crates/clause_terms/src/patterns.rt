@@ -81,9 +81,9 @@ fn pattern_grown<B: Bank>(
     }
 }
 
-/// The terms of patterns. On `Err` the bank may have grown.
+/// The terms of patterns, as `pattern_term` has each. On `Err` the bank may have grown.
 #[cycle(pattern)]
-fn patterns_grown<B: Bank>(
+pub fn patterns_grown<B: Bank>(
     alloc: Global,
     bank: &mut B,
     protocol: &Protocol,

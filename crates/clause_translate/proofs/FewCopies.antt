@@ -1,14 +1,14 @@
 -- The copies that were taken above visits: as many as above the point, and below a replication one more.
-use Rattle.std.proofs.Common.{◌≡◌, ℕ, ◌+◌, ◌≤◌, Option, Some, None, List, [], ◌∷◌, length, take, ap, sym, subst, ◌∙◌, arith}
+use Rattle.std.proofs.Common.{◌≡◌, ℕ, ◌+◌, ◌≤◌, Option, Some, None, List, [], ◌∷◌, length, take, ap, sym, subst, ◌∙◌, arith, Bool}
 use Rattle.std.specs.Prelude.{IfSome}
 use Rattle.std.specs.List.{AllByRecursion}
 use Rattle.std.proofs.lemmas.List.{length-append, length-map}
 use Rattle.spec_trees.specs.Tree.{Leaf, bind}
-use Rattle.spec_calculus.specs.Syntax.{Process, Pattern, Ruled, Protocol}
+use Rattle.spec_calculus.specs.Syntax.{Process, Pattern, Ruled, Protocol, Condition}
 use Rattle.spec_calculus.specs.Points.{point_after}
 use Rattle.spec_terms.specs.Term.{Term}
 use Rattle.spec_translation.specs.Visit.{Visit, after_copy}
-use Rattle.spec_translation.specs.Choice.{Choice, ruled_choice, GoesOn, EachGoesOn}
+use Rattle.spec_translation.specs.Choice.{Choice, ruled_choice, GoesOn, EachGoesOn, entry_choice, EntryGoesOn}
 use Rattle.term_tree.specs.Bank.{tree_at}
 use Rattle.process_visits.specs.declared.place.Place.{Place}
 use Rattle.process_visits.specs.declared.visit.Visit as source
@@ -16,6 +16,7 @@ use Rattle.process_visits.specs.Places.{IsAt}
 use Rattle.process_visits.specs.declared.ways.Passed.{Passed}
 use Rattle.process_visits.specs.declared.ways.Way.{Way}
 use Rattle.process_visits.specs.declared.ways.Way.TheVariants as ways
+use Rattle.process_visits.specs.Entries.{IsEntryWay}
 use Rattle.process_visits.specs.Visits.{visit_at, NamesVisit, HasFewCopies}
 use Rattle.process_visits.specs.Ways.{AreWays, Passes}
 use Rattle.clause_translate.specs.Jobs.{IsKnownWay}
@@ -68,3 +69,18 @@ known_way P pattern to point old next v rs passed at few p = go passed.way p.way
       let one = subst (λ (os : List (Option Visit)). AllByRecursion (λ out. IfSome out (SameCopies (visit_at old v))) os) is.1 same in
       let kept = kept_copies old next v made is.0 is.3 one.0 in
       let few_there = next_copies to point v at few in (is.3.known, omega (arith, kept, few_there))
+
+-- and the one that goes on with an entry
+module _ (P : Protocol) (table : ℕ) (patterns : List Pattern) (condition : Condition) where
+  entry_copies : (old next : List Term) (v made : source.Visit) (large : Bool) → EntryGoesOn P (visit_at old v) table patterns condition large (Some (visit_at next made)) → length made.sessions ≡ length v.sessions
+  entry_copies old next v made large goes =
+      sym (counted next made) ∙ (goes_on (entry_choice P (visit_at old v) table patterns condition goes.at) (Some (visit_at next made)) goes.goes_on ∙ counted old v)
+
+  pub entry_known : (to : Place) (point : ℕ) (old next : List Term) (v : source.Visit) (large : Bool) (out : Option Visit) (way : Way) → IsAt P (point + 1) to → HasFewCopies point v → EntryGoesOn P (visit_at old v) table patterns condition large out → IsEntryWay next large out way
+      → IsKnownWay next to.point way
+  entry_known to point old next v large out ways.Nowhere at few goes is = tt
+  entry_known to point old next v large out ways.Large at few goes is = tt
+  entry_known to point old next v large out (ways.Visit made) at few goes is =
+      let kept = entry_copies old next v made large (subst (λ (o : Option Visit). EntryGoesOn P (visit_at old v) table patterns condition large o) is.1 goes) in
+      let few_there = next_copies to point v at few in
+      (is.3, omega (arith, kept, few_there))

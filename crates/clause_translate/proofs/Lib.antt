@@ -9,3 +9,4 @@ pub mod Reading
 pub mod Translating
 pub mod Linear
 pub mod Sounding
+pub mod EntryWays

@@ -1,4 +1,4 @@
--- What is read has short tuples, and rules with few variables; it waits for no phase and has no tables.
+-- What is read has short tuples, and rules with few variables.
 use Rattle.std.proofs.Common.{◌≡◌, ℕ, zero, suc, ◌+◌, ◌≤◌, Option, Some, None, List, [], ◌∷◌, ◌++◌, length, refl, sym, subst, arith}
 use Rattle.std.specs.List.{AllByRecursion, slice_get}
 use Rattle.std.specs.Option.{option_map_or}
@@ -8,15 +8,15 @@ use Rattle.spec_calculus.specs.Syntax.{Name, Made, Constructor, Tuple, Process, 
 use Rattle.spec_calculus.specs.Bounds.{most_choices}
 use Rattle.spec_calculus.specs.Choices.{choice_count}
 use Rattle.spec_calculus.specs.Matching.{rules_of}
-use Rattle.spec_calculus.specs.Plain.{IsPlain}
+use Rattle.spec_calculus.specs.Tables.{sides}
 use Rattle.spec_calculus.specs.Points.{numbered, point_after}
 use Rattle.spec_well_formed.specs.Signature.{Signature, signature_of}
-use Rattle.spec_well_formed.specs.Terms.{row_length, EachSymbol, EachSymbolInRow, IsKnown, rule_count, TakesParts, IsExpressionBelow, bound_by}
+use Rattle.spec_well_formed.specs.Terms.{row_length, EachSymbol, EachSymbolInRow, IsKnown, rule_count, TakesParts, IsExpressionBelow, bound_by, bound_by_row}
 use Rattle.spec_well_formed.specs.Processes.{IsProcessBelow}
 use Rattle.spec_well_formed.specs.Limits.{IsSmallRule, IsSmallDestructor, IsWithinLimits}
 use Rattle.spec_well_formed.specs.Rules.{IsProperRule, HasProperRules}
 use Rattle.spec_well_formed.specs.WellFormed.{IsRuleOver, IsWellScoped}
-use Rattle.clause_terms.proofs.Laws.{short_term, short_terms, short_pattern, short_rule, rule_room}
+use Rattle.clause_terms.proofs.Laws.{short_term, short_terms, short_pattern, short_row, short_rule, rule_room}
 use Rattle.process_visits.specs.Room.{rule_base}
 use Rattle.process_visits.specs.Short.{IsFitHead, IsFitExpression, IsFitProcess, IsFitRule, HasFitRules}
 
@@ -50,28 +50,33 @@ module _ (P : Protocol) where
         few_choices = subst (λ n. n ≤ most_choices) (λ i. choice_count (λ d. counts d i) e) below.few_choices;
       }
 
-  fit_process : (bound : List Name) (point : ℕ) (p : Process) → IsPlain p → IsProcessBelow (signature_of P) bound point p → IsFitProcess P p
-  fit_process bound point Nil plain below = tt
-  fit_process bound point (Output channel message next) plain below =
-      (short_term (signature_of P) (IsKnown (signature_of P) bound) channel below.0, short_term (signature_of P) (IsKnown (signature_of P) bound) message below.1, fit_process bound (point + 1) next plain below.2)
-  fit_process bound point (Input channel pattern next) plain below =
-      (short_term (signature_of P) (IsKnown (signature_of P) bound) channel below.0, short_pattern (signature_of P) bound pattern below.1, fit_process (bound_by pattern ++ bound) (point + 1) next plain below.2)
-  fit_process bound point (Parallel left right) plain below = (fit_process bound (point + 1) left plain.0 below.0, fit_process bound (point_after (point + 1) left) right plain.1 below.1)
-  fit_process bound point (Replication copied) plain below = fit_process bound (point + 1) copied plain below
-  fit_process bound point (New word next) plain below = fit_process (Made point ∷ bound) (point + 1) next plain below.1
-  fit_process bound point (Let pattern expression next otherwise) plain below = (
+  fit_process : (bound : List Name) (point : ℕ) (p : Process) → IsProcessBelow (signature_of P) bound point p → IsFitProcess P p
+  fit_process bound point Nil below = tt
+  fit_process bound point (Output channel message next) below =
+      (short_term (signature_of P) (IsKnown (signature_of P) bound) channel below.0, short_term (signature_of P) (IsKnown (signature_of P) bound) message below.1, fit_process bound (point + 1) next below.2)
+  fit_process bound point (Input channel pattern next) below =
+      (short_term (signature_of P) (IsKnown (signature_of P) bound) channel below.0, short_pattern (signature_of P) bound pattern below.1, fit_process (bound_by pattern ++ bound) (point + 1) next below.2)
+  fit_process bound point (Parallel left right) below = (fit_process bound (point + 1) left below.0, fit_process bound (point_after (point + 1) left) right below.1)
+  fit_process bound point (Replication copied) below = fit_process bound (point + 1) copied below
+  fit_process bound point (New word next) below = fit_process (Made point ∷ bound) (point + 1) next below.1
+  fit_process bound point (Let pattern expression next otherwise) below = (
     short_pattern (signature_of P) bound pattern below.0,
     fit_expression bound expression below.1,
-    fit_process (bound_by pattern ++ bound) (point + 1) next plain.0 below.2,
-    fit_process bound (point_after (point + 1) next) otherwise plain.1 below.3,
+    fit_process (bound_by pattern ++ bound) (point + 1) next below.2,
+    fit_process bound (point_after (point + 1) next) otherwise below.3,
   )
-  fit_process bound point (Event performed next) plain below = (short_terms (signature_of P) (IsKnown (signature_of P) bound) performed.arguments below.0.arguments, fit_process bound (point + 1) next plain below.1)
-  fit_process bound point (Phase number next) plain below = absurd plain
-  fit_process bound point (Insert table arguments next) plain below = absurd plain
-  fit_process bound point (Get table patterns condition next otherwise) plain below = absurd plain
+  fit_process bound point (Event performed next) below = (short_terms (signature_of P) (IsKnown (signature_of P) bound) performed.arguments below.0.arguments, fit_process bound (point + 1) next below.1)
+  fit_process bound point (Phase number next) below = fit_process bound (point + 1) next below
+  fit_process bound point (Insert table arguments next) below = (short_terms (signature_of P) (IsKnown (signature_of P) bound) arguments below.1, fit_process bound (point + 1) next below.2)
+  fit_process bound point (Get table patterns condition next otherwise) below = (
+    short_row (signature_of P) bound patterns below.1.holes below.1.arities,
+    short_terms (signature_of P) (IsKnown (signature_of P) (bound_by_row patterns ++ bound)) (sides condition) below.2,
+    fit_process (bound_by_row patterns ++ bound) (point + 1) next below.3,
+    fit_process bound (point_after (point + 1) next) otherwise below.4,
+  )
 
-pub main_fit : (P : Protocol) → IsPlain P.main → IsWellScoped P → IsFitProcess P P.main
-main_fit P plain scoped = fit_process P [] 1 P.main plain scoped.process
+pub main_fit : (P : Protocol) → IsWellScoped P → IsFitProcess P P.main
+main_fit P scoped = fit_process P [] 1 P.main scoped.process
 
 rules_fit : (signature : Signature) (rules : List Rule) → AllByRecursion IsProperRule rules → AllByRecursion IsSmallRule rules → AllByRecursion (IsRuleOver signature) rules → AllByRecursion IsFitRule rules
 rules_fit signature [] proper small over = tt

@@ -1,29 +1,30 @@
 -- How the visits of each form of process end, by how those below it do.
-use Rattle.std.proofs.Common.{◌≡◌, ◌≤◌, ℕ, suc, ◌+◌, Bool, true, false, Result, Option, Some, None, List, [], ◌∷◌, ◌++◌, length, map, refl, ap, sym, subst, ◌∙◌}
+use Rattle.std.proofs.Common.{◌≡◌, ◌≤◌, ℕ, suc, ◌+◌, Bool, true, false, Result, Option, Some, None, List, [], ◌∷◌, ◌++◌, length, map, refl, ap, sym, subst, ◌∙◌, ◌||◌}
 use Rattle.std.specs.Prelude.{IfOk}
-use Rattle.spec_calculus.specs.Syntax.{Process, Nil, Output, Input, Parallel, Replication, New, Let, Event, Phase, Insert, Get, EventTerm, Pattern, Expression, Ruled, Protocol}
+use Rattle.spec_calculus.specs.Syntax.{Process, Nil, Output, Input, Parallel, Replication, New, Let, Event, Phase, Insert, Get, EventTerm, Pattern, Expression, Ruled, Condition, Protocol}
 use Rattle.spec_calculus.specs.Syntax as calculus
 use Rattle.spec_calculus.specs.Points.{point_after}
 use Rattle.spec_trees.specs.Leaves.{leaves}
 use Rattle.spec_calculus.specs.Limits.{compared}
+use Rattle.spec_calculus.specs.Tables.{row_pattern}
 use Rattle.spec_calculus.specs.Choices.{choices}
 use Rattle.spec_terms.specs.Term.{Term}
 use Rattle.spec_clauses.specs.Fact.{Clause}
 use Rattle.spec_clauses.specs.Norm.{norms}
 use Rattle.spec_clauses.specs.Variables.{AreBelow}
 use Rattle.term_tree.specs.Bank.{Grows}
-use Rattle.spec_translation.specs.Visit.{Visit, visit_terms, is_large_visit, after_input, after_copy, after_new, after_event}
+use Rattle.spec_translation.specs.Visit.{Visit, visit_terms, is_large_visit, after_input, after_copy, after_new, after_event, after_phase}
 use Rattle.spec_translation.specs.Course as course
-use Rattle.spec_translation.specs.Course.{Outcome, Done, TooLarge, Course, Finished, Unless, preceded}
-use Rattle.spec_translation.specs.Choice.{EachGoesOn, AllGoOn}
+use Rattle.spec_translation.specs.Course.{Outcome, Done, TooLarge, Course, Unless, preceded}
+use Rattle.spec_translation.specs.Choice.{EachGoesOn, AllGoOn, EntryGoesOn}
 use Rattle.spec_translation.specs.Otherwise.{otherwise_visit}
-use Rattle.spec_translation.specs.Visited.{some_large, EachThen, Received, Chosen, Visited}
+use Rattle.spec_translation.specs.Visited.{some_large, EachThen, Received, Chosen, Fetched, Visited}
 use Rattle.process_visits.specs.declared.listing.Listing.{Listing}
 use Rattle.process_visits.specs.declared.place.Place.{Place}
 use Rattle.process_visits.specs.declared.visit.Visit as source
 use Rattle.process_visits.specs.Places.{protocol_at, IsAt}
 use Rattle.process_visits.specs.Visits.{visit_at, NamesVisit}
-use Rattle.process_visits.specs.Forms.{Lists, Adds, are_large_in, output_raw, is_large_output, event_raw, is_large_event, AddsEvent, IsLargeInput, evaluated, received, Receives}
+use Rattle.process_visits.specs.Forms.{Lists, Adds, are_large_in, output_raw, is_large_output, insert_raw, is_large_insert, event_raw, is_large_event, AddsEvent, IsLargeInput, evaluated, received, Receives}
 use Rattle.clause_translate.specs.Jobs.{Job, Once, Uncounted, Each, Runs, IsDone, Ends, EndsEach}
 use Rattle.process_visits.proofs.Named.{if_ok}
 use Rattle.process_visits.proofs.Listings.{lists_none, lists_behind, lists_no_more}
@@ -222,6 +223,66 @@ module _ (P : Protocol) (v : Visit) (pattern : Pattern) (expression : Expression
         (λ out run. chosen before.left (preceded done.more out) first.outs e (all_go first.outs first.go) (unless_small (some_large first.outs) point (each first.outs) before.left (preceded done.more out) first.small
         (each_join (λ x. Visited P next (point + 1) x) first.outs last before.left midway.left done.more out done.runs run)))
         (moved P (point_after (point + 1) next) (otherwise_visit P v pattern expression) to w otherwise new midway after large at same k)) h
+
+-- a wait for a phase
+pub phase_ends : {E : Type 0} (r : Result (Option ℕ) E) (P : Protocol) (v : Visit) (number : ℕ) (next : Process) (point : ℕ) (to : Place) (made : source.Visit) (old new : List Term) (before after : Listing)
+    → IsAt P (point + 1) to → NamesVisit old made (after_phase v number)
+    → IfOk r (λ large. Ends (protocol_at to) (Once next to.point (visit_at old made)) new before after large) → IfOk r (λ large. Ends P (Uncounted (Phase number next) point v) new before after large)
+phase_ends r P v number next point to made old new before after at names h =
+    if_ok r (λ large. Ends (protocol_at to) (Once next to.point (visit_at old made)) new before after large) (λ large. Ends P (Uncounted (Phase number next) point v) new before after large)
+    (λ large k. ends_as P (Once next (point + 1) (after_phase v number)) (Uncounted (Phase number next) point v) new before after large (λ out run. run)
+    (moved P (point + 1) (after_phase v number) to (visit_at old made) next new before after large at names.is k)) h
+
+-- an `insert`
+pub insert_large : (P : Protocol) (v : Visit) (table : ℕ) (arguments : List calculus.Term) (next : Process) (point left : ℕ) → is_large_insert P v table arguments ≡ true → Visited P (Insert table arguments next) point v (suc left) (TooLarge point)
+insert_large P v table arguments next point left e =
+    unless_large (is_large_insert P v table arguments) point (course.Adds (norms (insert_raw P v table arguments)) (Visited P next (point + 1) v)) left e
+
+pub insert_ends : {E : Type 0} (r : Result (Option ℕ) E) (P : Protocol) (v : Visit) (table : ℕ) (arguments : List calculus.Term) (next : Process) (point : ℕ) (to : Place) (w : Visit) (mid new : List Term) (before midway after : Listing)
+    → IsAt P (point + 1) to → w ≡ v → is_large_insert P v table arguments ≡ false → Grows mid new → Adds mid before midway (norms (insert_raw P v table arguments))
+    → IfOk r (λ large. Ends (protocol_at to) (Once next to.point w) new midway after large) → IfOk r (λ large. Ends P (Uncounted (Insert table arguments next) point v) new before after large)
+insert_ends r P v table arguments next point to w mid new before midway after at e small grows adds h =
+    if_ok r (λ large. Ends (protocol_at to) (Once next to.point w) new midway after large) (λ large. Ends P (Uncounted (Insert table arguments next) point v) new before after large)
+    (λ large k. ends_behind P (Once next (point + 1) v) (Uncounted (Insert table arguments next) point v) mid new before midway after (norms (insert_raw P v table arguments)) large grows adds.lists
+    (λ out run. unless_small (is_large_insert P v table arguments) point (course.Adds (norms (insert_raw P v table arguments)) (Visited P next (point + 1) v)) before.left (preceded (norms (insert_raw P v table arguments)) out) small
+    (out, subst (λ n. Visited P next (point + 1) v n out) adds.left run, refl))
+    (moved P (point + 1) v to w next new midway after large at e k)) h
+
+-- a `get`
+module _ (P : Protocol) (v : Visit) (table : ℕ) (patterns : List Pattern) (condition : Condition) (next otherwise : Process) (point : ℕ) where
+  abbrev compares : Bool
+  compares = are_large_in P v.scope (compared (row_pattern patterns))
+
+  abbrev behind_entry : Course
+  behind_entry left out = Visited P otherwise (point_after (point + 1) next) v left out
+
+  abbrev with_it : Option Visit → Course
+  with_it went left out = EachThen (λ w. Visited P next (point + 1) w) (went ∷ []) behind_entry left out
+
+  pub get_large : (left : ℕ) → are_large_in P v.scope (compared (row_pattern patterns)) ≡ true → Visited P (Get table patterns condition next otherwise) point v (suc left) (TooLarge point)
+  get_large left e = unless_large compares point (Fetched P v table patterns condition point (λ w. Visited P next (point + 1) w) behind_entry) left e
+
+  fetched : (left : ℕ) (out : Outcome) (large : Bool) (went : Option Visit) → compares ≡ false → EntryGoesOn P v table patterns condition large went → Unless (large || some_large (went ∷ [])) point (with_it went) left out → Visited P (Get table patterns condition next otherwise) point v (suc left) out
+  fetched left out large went e go h = unless_small compares point (Fetched P v table patterns condition point (λ w. Visited P next (point + 1) w) behind_entry) left out e (large, went, go, h)
+
+  pub entry_large : (left : ℕ) (large : Bool) (went : Option Visit) → are_large_in P v.scope (compared (row_pattern patterns)) ≡ false → EntryGoesOn P v table patterns condition large went → (large || some_large (went ∷ [])) ≡ true
+      → Visited P (Get table patterns condition next otherwise) point v (suc left) (TooLarge point)
+  entry_large left large went e go over = fetched left (TooLarge point) large went e go (unless_large (large || some_large (went ∷ [])) point (with_it went) left over)
+
+  module _ (large : Bool) (went : Option Visit) (e : are_large_in P v.scope (compared (row_pattern patterns)) ≡ false) (go : EntryGoesOn P v table patterns condition large went) (small : (large || some_large (went ∷ [])) ≡ false) where
+    pub entry_next_large : (all : List Term) (before after : Listing) (q : ℕ) → Ends P (Each next (point + 1) (went ∷ [])) all before after (Some q) → Visited P (Get table patterns condition next otherwise) point v (suc before.left) (TooLarge q)
+    entry_next_large all before after q h =
+        fetched before.left (TooLarge q) large went e go (unless_small (large || some_large (went ∷ [])) point (with_it went) before.left (TooLarge q) small
+        (each_large (λ w. Visited P next (point + 1) w) (went ∷ []) behind_entry before.left q h))
+
+    pub get_ends : {E : Type 0} (r : Result (Option ℕ) E) (to : Place) (w : Visit) (mid new : List Term) (before midway after : Listing) → IsAt P (point_after (point + 1) next) to → w ≡ v → Grows mid new → IsDone P (Each next (point + 1) (went ∷ [])) mid before midway
+        → IfOk r (λ large. Ends (protocol_at to) (Once otherwise to.point w) new midway after large) → IfOk r (λ large. Ends P (Uncounted (Get table patterns condition next otherwise) point v) new before after large)
+    get_ends r to w mid new before midway after at same grows done h =
+        if_ok r (λ large. Ends (protocol_at to) (Once otherwise to.point w) new midway after large) (λ large. Ends P (Uncounted (Get table patterns condition next otherwise) point v) new before after large)
+        (λ over k. ends_behind P (Once otherwise (point_after (point + 1) next) v) (Uncounted (Get table patterns condition next otherwise) point v) mid new before midway after done.more over grows done.lists
+        (λ out run. fetched before.left (preceded done.more out) large went e go (unless_small (large || some_large (went ∷ [])) point (with_it went) before.left (preceded done.more out) small
+        (each_join (λ x. Visited P next (point + 1) x) (went ∷ []) behind_entry before.left midway.left done.more out done.runs run)))
+        (moved P (point_after (point + 1) next) v to w otherwise new midway after over at same k)) h
 
 -- nothing
 pub nil_ends : (P : Protocol) (point : ℕ) (v : Visit) (all : List Term) (listing : Listing) → Ends P (Uncounted Nil point v) all listing listing None

@@ -11,6 +11,7 @@ ghost use Rattle.spec_choice_walks.specs.Instructions.{instructions};
 ghost use Rattle.term_values.specs.Instructions.{instruction_of};
 ghost use Rattle.process_visits.specs.Places.{protocol_at, IsAt, HasFewPoints};
 ghost use Rattle.process_visits.specs.Processes.{output_form, input_form, parallel_form, let_form, event_form};
+ghost use Rattle.process_visits.specs.Processes.{phase_form, insert_form, get_form};
 ghost use Rattle.process_visits.specs.Short.{IsFitProcess};
 ghost use Rattle.process_visits.specs.Visits.{visit_at, IsVisitIn, HasFewCopies};
 ghost use Rattle.process_visits.specs.Walks.{choices_of, IsChoosingIn};
@@ -21,12 +22,15 @@ use process_visits::choice::Choosing;
 use process_visits::choices::{choices_from, count_choices, is_large_choice};
 use process_visits::copies::after_copy;
 use process_visits::events::add_event;
-use process_visits::forms::{Event, Input, Let, Output, Parallel};
+use process_visits::forms::{Event, Get, Input, Insert, Let, Output, Parallel, Phase};
+use process_visits::gets::entry_way;
 use process_visits::inputs::after_input;
-use process_visits::large::is_large_let;
+use process_visits::inserts::add_insert;
+use process_visits::large::{is_large_let, some_large_compared_in};
 use process_visits::listing::Listing;
 use process_visits::names::after_new;
 use process_visits::outputs::add_output;
+use process_visits::phases::after_phase;
 use process_visits::place::Place;
 use process_visits::visit::Visit;
 use process_visits::ways::Way;
@@ -148,6 +152,31 @@ fn visit_form<B: Bank>(
         Process::Event(atom, next) => {
             let event = Event { atom, next };
             visit_event(&event, place, bank, listing, visit)
+        }
+        Process::Phase(number, next) => {
+            let phase = Phase {
+                number: *number,
+                next,
+            };
+            visit_phase(&phase, place, bank, listing, visit)
+        }
+        Process::Insert(table, arguments, next) => {
+            let insert = Insert {
+                table: *table,
+                arguments,
+                next,
+            };
+            visit_insert(&insert, place, bank, listing, visit)
+        }
+        Process::Get(table, patterns, condition, next, otherwise) => {
+            let get = Get {
+                table: *table,
+                patterns,
+                condition,
+                next,
+                otherwise,
+            };
+            visit_get(&get, place, bank, listing, visit)
         }
     }
 }
@@ -349,6 +378,87 @@ fn visit_event<B: Bank>(
     match add_event(place, bank, listing, visit, event.atom)? {
         None => Ok(Some(place.point)),
         Some(made) => visit_process(event.next, &below, bank, listing, &made),
+    }
+}
+
+/// Visits a process that waits for a phase. On `Err` the bank may have grown.
+#[cycle(visits)]
+fn visit_phase<B: Bank>(
+    phase: &Phase<'_>,
+    place: &Place<'_>,
+    bank: &mut B,
+    listing: &mut Listing,
+    visit: &Visit,
+) -> Result<Option<u32>, AllocError>
+    requires visit { IsVisitIn (B.trees bank.old) visit.now }
+    requires fit { IsFitProcess (protocol_at place.now) (phase_form phase.now) }
+    requires points { HasFewPoints place.now.point (phase_form phase.now) }
+    requires copies { HasFewCopies place.now.point visit.now }
+    ensures grows { Grows (B.trees bank.old) (B.trees bank.new) }
+    ensures ends { IfOk result (λ large. Ends (protocol_at place.now)
+        (Uncounted (phase_form phase.now) place.now.point (visit_at (B.trees bank.old) visit.now))
+        (B.trees bank.new) listing.old listing.new large) }
+{
+    let below = place.below();
+    let made = after_phase(place.alloc, visit, phase.number)?;
+    visit_process(phase.next, &below, bank, listing, &made)
+}
+
+/// Visits an `insert`. On `Err` the bank may have grown.
+#[cycle(visits)]
+fn visit_insert<B: Bank>(
+    insert: &Insert<'_>,
+    place: &Place<'_>,
+    bank: &mut B,
+    listing: &mut Listing,
+    visit: &Visit,
+) -> Result<Option<u32>, AllocError>
+    requires visit { IsVisitIn (B.trees bank.old) visit.now }
+    requires fit { IsFitProcess (protocol_at place.now) (insert_form insert.now) }
+    requires points { HasFewPoints place.now.point (insert_form insert.now) }
+    requires copies { HasFewCopies place.now.point visit.now }
+    ensures grows { Grows (B.trees bank.old) (B.trees bank.new) }
+    ensures ends { IfOk result (λ large. Ends (protocol_at place.now)
+        (Uncounted (insert_form insert.now) place.now.point (visit_at (B.trees bank.old) visit.now))
+        (B.trees bank.new) listing.old listing.new large) }
+{
+    if !add_insert(place, bank, listing, visit, insert)? {
+        return Ok(Some(place.point));
+    }
+    let below = place.below();
+    visit_process(insert.next, &below, bank, listing, visit)
+}
+
+/// Visits a `get`. On `Err` the bank may have grown.
+#[cycle(visits)]
+fn visit_get<B: Bank>(
+    get: &Get<'_>,
+    place: &Place<'_>,
+    bank: &mut B,
+    listing: &mut Listing,
+    visit: &Visit,
+) -> Result<Option<u32>, AllocError>
+    requires visit { IsVisitIn (B.trees bank.old) visit.now }
+    requires fit { IsFitProcess (protocol_at place.now) (get_form get.now) }
+    requires points { HasFewPoints place.now.point (get_form get.now) }
+    requires copies { HasFewCopies place.now.point visit.now }
+    ensures grows { Grows (B.trees bank.old) (B.trees bank.new) }
+    ensures ends { IfOk result (λ large. Ends (protocol_at place.now)
+        (Uncounted (get_form get.now) place.now.point (visit_at (B.trees bank.old) visit.now))
+        (B.trees bank.new) listing.old listing.new large) }
+{
+    if some_large_compared_in(place, bank, &visit.scope, get.patterns) {
+        return Ok(Some(place.point));
+    }
+    let below = place.below();
+    let after = place.after(get.next);
+    let way = entry_way(place, bank, visit, get)?;
+    if way.is_large() {
+        return Ok(Some(place.point));
+    }
+    match visit_way(get.next, &below, bank, listing, &way)? {
+        Some(point) => Ok(Some(point)),
+        None => visit_process(get.otherwise, &after, bank, listing, visit),
     }
 }
 

@@ -5,21 +5,23 @@ use Rattle.spec_terms.specs.Term.{Term}
 use Rattle.spec_clauses.specs.Fact as horn
 use Rattle.spec_certificate_text.specs.Facts as facts
 use Rattle.fact_reader.specs.declared.terms.ReadFact.{ReadFact}
-use Rattle.fact_reader.specs.declared.terms.ReadFact.TheVariants.{Att, Mess, Ev, Mev, Bad}
+use Rattle.fact_reader.specs.declared.terms.ReadFact.TheVariants.{Att, Mess, Tab, Ev, Mev, Bad}
 use Rattle.fact_reader.specs.declared.rows.ReadEvent.{ReadEvent}
 use Rattle.fact_reader.specs.declared.clauses.ReadClause.{ReadClause}
 
 -- the fact that is read, and its terms
 abbrev pub fact_over : {T : Type 0} → (T → Term) → ReadFact T → horn.Fact Term
-fact_over view (Att t) = horn.Att 0 (view t)
-fact_over view (Mess t u) = horn.Mess 0 (view t) (view u)
+fact_over view (Att k t) = horn.Att k (view t)
+fact_over view (Mess k t u) = horn.Mess k (view t) (view u)
+fact_over view (Tab n ts) = horn.Tab n (map view ts.items)
 fact_over view (Ev e ts) = horn.Ev e (map view ts.items)
 fact_over view (Mev e ts) = horn.Mev e (map view ts.items)
 fact_over view (Bad ts) = horn.Bad (map view ts.items)
 
 abbrev pub terms_in : {T : Type 0} → ReadFact T → List T
-terms_in (Att t) = t ∷ []
-terms_in (Mess t u) = t ∷ u ∷ []
+terms_in (Att k t) = t ∷ []
+terms_in (Mess k t u) = t ∷ u ∷ []
+terms_in (Tab n ts) = ts.items
 terms_in (Ev e ts) = ts.items
 terms_in (Mev e ts) = ts.items
 terms_in (Bad ts) = ts.items

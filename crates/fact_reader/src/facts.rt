@@ -2,53 +2,113 @@
 
 ghost use Rattle.std.specs.Prelude.{◌≡◌, map, IfOk};
 ghost use Rattle.std.specs.List.{AllByRecursion};
+ghost use Rattle.spec_certificate_text.specs.Facts as facts;
 ghost use Rattle.spec_certificate_text.specs.Walks as walks;
 ghost use Rattle.term_reader.specs.Naming.{protocol_in};
+ghost use Rattle.fact_reader.specs.Gives.{same};
+ghost use Rattle.fact_reader.specs.Reads.{Reads};
 ghost use Rattle.fact_reader.specs.Walks.{Walks};
 
 use crate::cursor::Cursor;
 use crate::error::CertError;
-use crate::rows::{event, terms};
+use crate::rows::{entry, event, terms};
 use crate::terms::{ReadFact, TermReader};
 use std::alloc::Global;
 use term_reader::Names;
 
-/// `att(`, a term and `)`.
+/// A phase of the protocol past the first.
+fn later_phase(names: &Names<'_>, cursor: &mut Cursor<'_>) -> Result<u32, CertError>
+    ensures read { Reads same (facts.read_later_phase (protocol_in names.now))
+        cursor.old cursor.new result }
+    ensures same { cursor.new.bytes.now ≡ cursor.old.bytes.now }
+{
+    let from = cursor.at;
+    let found = cursor.number()?;
+    if names.is_later_phase(found) {
+        Ok(found)
+    } else {
+        Err(CertError::Symbol(from))
+    }
+}
+
+/// The phase of a predicate: `@` and a phase past the first, or nothing.
+#[tactic(auto, using(crate::proofs::Places::drop_next))]
+fn read_phase(names: &Names<'_>, cursor: &mut Cursor<'_>) -> Result<u32, CertError>
+    ensures read { Reads same (facts.read_phase (protocol_in names.now))
+        cursor.old cursor.new result }
+    ensures same { cursor.new.bytes.now ≡ cursor.old.bytes.now }
+{
+    if cursor.front() == b'@' {
+        cursor.at += 1;
+        return later_phase(names, cursor);
+    }
+    Ok(0)
+}
+
+/// `att` with its phase, `(`, a term and `)`.
 fn att<R: TermReader>(
+    names: &Names<'_>,
     reader: &R,
     cursor: &mut Cursor<'_>,
     state: &mut R::State,
 ) -> Result<R::Fact, CertError>
-    ensures read { Walks (R.fact_of reader.now) (walks.read_att (R.walk reader.now) R.counts)
+    ensures read { Walks (R.fact_of reader.now) (walks.read_att (R.walk reader.now) R.counts
+        (protocol_in names.now))
         (R.seen state.old) (R.seen state.new) cursor.old cursor.new result }
     ensures same { cursor.new.bytes.now ≡ cursor.old.bytes.now }
     ensures known { IfOk result (R.IsFact reader.now) }
 {
-    cursor.pass(b"att(")?;
+    cursor.pass(b"att")?;
+    let phase = read_phase(names, cursor)?;
+    cursor.pass(b"(")?;
     reader.count(state, 1);
     let known = reader.read_term(cursor, state)?;
     cursor.pass(b")")?;
-    Ok(reader.make_fact(ReadFact::Att(known)))
+    Ok(reader.make_fact(ReadFact::Att(phase, known)))
 }
 
-/// `mess(`, two terms with a comma between, and `)`.
+/// `mess` with its phase, `(`, two terms with a comma between, and `)`.
 fn mess<R: TermReader>(
+    names: &Names<'_>,
     reader: &R,
     cursor: &mut Cursor<'_>,
     state: &mut R::State,
 ) -> Result<R::Fact, CertError>
-    ensures read { Walks (R.fact_of reader.now) (walks.read_mess (R.walk reader.now) R.counts)
+    ensures read { Walks (R.fact_of reader.now) (walks.read_mess (R.walk reader.now) R.counts
+        (protocol_in names.now))
         (R.seen state.old) (R.seen state.new) cursor.old cursor.new result }
     ensures same { cursor.new.bytes.now ≡ cursor.old.bytes.now }
     ensures known { IfOk result (R.IsFact reader.now) }
 {
-    cursor.pass(b"mess(")?;
+    cursor.pass(b"mess")?;
+    let phase = read_phase(names, cursor)?;
+    cursor.pass(b"(")?;
     reader.count(state, 1);
     let channel = reader.read_term(cursor, state)?;
     cursor.pass(b",")?;
     let message = reader.read_term(cursor, state)?;
     cursor.pass(b")")?;
-    Ok(reader.make_fact(ReadFact::Mess(channel, message)))
+    Ok(reader.make_fact(ReadFact::Mess(phase, channel, message)))
+}
+
+/// `tab(`, an entry and `)`.
+fn tab<R: TermReader>(
+    names: &Names<'_>,
+    reader: &R,
+    cursor: &mut Cursor<'_>,
+    state: &mut R::State,
+) -> Result<R::Fact, CertError>
+    ensures read { Walks (R.fact_of reader.now) (walks.read_tab (R.walk reader.now) R.counts
+        (protocol_in names.now))
+        (R.seen state.old) (R.seen state.new) cursor.old cursor.new result }
+    ensures same { cursor.new.bytes.now ≡ cursor.old.bytes.now }
+    ensures known { IfOk result (R.IsFact reader.now) }
+{
+    cursor.pass(b"tab(")?;
+    reader.count(state, 2);
+    let stored = entry(names, reader, cursor, state)?;
+    cursor.pass(b")")?;
+    Ok(reader.make_fact(ReadFact::Tab(stored.event, stored.arguments)))
 }
 
 /// `ev(`, an event and `)`.
@@ -145,7 +205,7 @@ fn mev_or_mess<R: TermReader>(
     if cursor.front_behind(2) == b'v' {
         mev(names, reader, cursor, state)
     } else {
-        mess(reader, cursor, state)
+        mess(names, reader, cursor, state)
     }
 }
 
@@ -167,8 +227,10 @@ pub(crate) fn read_hypothesis<R: TermReader>(
         mev_or_mess(names, reader, cursor, state)
     } else if first == b'e' {
         ev(names, reader, cursor, state)
+    } else if first == b't' {
+        tab(names, reader, cursor, state)
     } else {
-        att(reader, cursor, state)
+        att(names, reader, cursor, state)
     }
 }
 
@@ -187,12 +249,14 @@ pub(crate) fn read_conclusion<R: TermReader>(
 {
     let first = cursor.front();
     if first == b'm' {
-        mess(reader, cursor, state)
+        mess(names, reader, cursor, state)
     } else if first == b'e' {
         ev(names, reader, cursor, state)
     } else if first == b'b' {
         bad(names.alloc, reader, cursor, state)
+    } else if first == b't' {
+        tab(names, reader, cursor, state)
     } else {
-        att(reader, cursor, state)
+        att(names, reader, cursor, state)
     }
 }

@@ -1,4 +1,4 @@
-//! Rows of terms, and events over them, whatever the way in which terms are read.
+//! Rows of terms, and events and entries of tables over them, whatever the way in which terms are read.
 
 ghost use Rattle.std.specs.Prelude.{◌≡◌, ℕ, List, Some, map, IfOk};
 ghost use Rattle.std.specs.List.{AllByRecursion};
@@ -18,7 +18,7 @@ use crate::words::word_end;
 use std::alloc::Global;
 use term_reader::{CalledEvent, Names};
 
-/// An event over terms that were read.
+/// An event or a table over terms that were read.
 #[derive(Drop)]
 pub struct ReadEvent<T> {
     pub event: u32,
@@ -70,7 +70,7 @@ pub(crate) fn terms<R: TermReader>(
     Err(CertError::Syntax(cursor.at))
 }
 
-/// What stands behind the word of an event.
+/// What stands behind the word of an event or a table.
 fn applied<R: TermReader>(
     alloc: Global,
     reader: &R,
@@ -90,7 +90,7 @@ fn applied<R: TermReader>(
     Ok(Vec::new(alloc))
 }
 
-/// The event over these arguments, which begins at the place, if it takes as many.
+/// What is called so over these arguments, which begins at the place, if it takes as many.
 fn with_arguments<T: Drop>(
     called: CalledEvent,
     from: usize,
@@ -109,14 +109,14 @@ fn with_arguments<T: Drop>(
     }
 }
 
-/// An event whose word was read, and where it began.
+/// An event or a table whose word was read, and where it began.
 #[derive(Clone, Copy)]
 struct Begun {
     called: CalledEvent,
     from: usize,
 }
 
-/// The event whose word was read, over what stands there.
+/// The event or the entry whose word was read, over what stands there.
 fn over_arguments<R: TermReader>(
     alloc: Global,
     reader: &R,
@@ -154,6 +154,33 @@ pub(crate) fn event<R: TermReader>(
     let end = word_end(bytes, from)?;
     cursor.at = end;
     match names.event_called(&bytes[from..end]) {
+        None => Err(CertError::Symbol(from)),
+        Some(called) => {
+            let begun = Begun { called, from };
+            over_arguments(names.alloc, reader, cursor, state, begun)
+        }
+    }
+}
+
+/// The entry of a table that stands there.
+pub(crate) fn entry<R: TermReader>(
+    names: &Names<'_>,
+    reader: &R,
+    cursor: &mut Cursor<'_>,
+    state: &mut R::State,
+) -> Result<ReadEvent<R::Term>, CertError>
+    ensures read { Walks (event_over (R.term_of reader.now))
+        (walks.read_entry (R.walk reader.now) (protocol_in names.now))
+        (R.seen state.old) (R.seen state.new) cursor.old cursor.new result }
+    ensures same { cursor.new.bytes.now ≡ cursor.old.bytes.now }
+    ensures known { IfOk result (λ read.
+        AllByRecursion (R.IsTerm reader.now) read.arguments.items) }
+{
+    let bytes = cursor.bytes;
+    let from = cursor.at;
+    let end = word_end(bytes, from)?;
+    cursor.at = end;
+    match names.table_called(&bytes[from..end]) {
         None => Err(CertError::Symbol(from)),
         Some(called) => {
             let begun = Begun { called, from };

@@ -86,8 +86,9 @@ impl TermReader for SpelledTerms<'_> {
         ensures known { AllByRecursion (λ _. Unit {0}) (terms_in read) → Unit {0} }
     {
         match read {
-            ReadFact::Att(known) => PlainFact::Att(0, known),
-            ReadFact::Mess(channel, message) => PlainFact::Mess(0, channel, message),
+            ReadFact::Att(phase, known) => PlainFact::Att(phase, known),
+            ReadFact::Mess(phase, channel, message) => PlainFact::Mess(phase, channel, message),
+            ReadFact::Tab(table, items) => PlainFact::Tab(table, Trees { items }),
             ReadFact::Ev(event, items) => PlainFact::Ev(event, Trees { items }),
             ReadFact::Mev(event, items) => PlainFact::Mev(event, Trees { items }),
             ReadFact::Bad(items) => PlainFact::Bad(Trees { items }),

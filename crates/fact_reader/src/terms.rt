@@ -3,11 +3,12 @@
 use crate::cursor::Cursor;
 use crate::error::CertError;
 
-/// What is read of a fact.
+/// What is read of a fact: its phase, or the number of its table or event, and its terms.
 #[derive(Drop)]
 pub enum ReadFact<T> {
-    Att(T),
-    Mess(T, T),
+    Att(u32, T),
+    Mess(u32, T, T),
+    Tab(u32, Vec<T>),
     Ev(u32, Vec<T>),
     Mev(u32, Vec<T>),
     Bad(Vec<T>),

@@ -3,7 +3,7 @@
 #![tactic(auto)]
 
 ghost use Rattle.std.specs.Prelude.{◌≡◌};
-ghost use Rattle.spec_calculus.specs.Bounds.{most_bytes, most_report_bytes, most_run_bytes, most_line_bytes, most_digits, most_levels, most_names, most_arguments, most_rules, most_alternatives, most_events, most_queries, most_written_symbols, most_points, most_points_above, most_applications, most_choices, most_symbols, most_term_levels, most_visits, most_clauses, most_budget, most_keys};
+ghost use Rattle.spec_calculus.specs.Bounds.{most_bytes, most_report_bytes, most_run_bytes, most_line_bytes, most_digits, most_levels, most_names, most_arguments, most_rules, most_alternatives, most_events, most_queries, most_written_symbols, most_points, most_points_above, most_applications, most_choices, most_symbols, most_term_levels, most_visits, most_clauses, most_budget, most_keys, most_phases};
 
 /// The most bytes of a protocol's text.
 pub const MOST_BYTES: usize = 1_048_576;
@@ -74,6 +74,9 @@ pub const MOST_BUDGET: u64 = 1_000_000;
 /// The most keys of a ring.
 pub const MOST_KEYS: u64 = 400;
 
+/// The greatest phase.
+pub const MOST_PHASES: u32 = 16;
+
 /// Each constant is the number that the definitions name.
 pub fn limits_are_named()
     ensures bytes { MOST_BYTES ≡ most_bytes }
@@ -99,4 +102,5 @@ pub fn limits_are_named()
     ensures clauses { MOST_CLAUSES ≡ most_clauses }
     ensures budget { MOST_BUDGET ≡ most_budget }
     ensures keys { MOST_KEYS ≡ most_keys }
+    ensures phases { MOST_PHASES ≡ most_phases }
 {}

@@ -63,8 +63,9 @@ impl TermReader for NumberedTerms<'_> {
             → IsFactIn (table_of self.now.table.now).terms (fact_of_ids result) }
     {
         match read {
-            ReadFact::Att(known) => Fact::Att(0, known),
-            ReadFact::Mess(channel, message) => Fact::Mess(0, channel, message),
+            ReadFact::Att(phase, known) => Fact::Att(phase, known),
+            ReadFact::Mess(phase, channel, message) => Fact::Mess(phase, channel, message),
+            ReadFact::Tab(table, items) => Fact::Tab(table, Ids { items }),
             ReadFact::Ev(event, items) => Fact::Ev(event, Ids { items }),
             ReadFact::Mev(event, items) => Fact::Mev(event, Ids { items }),
             ReadFact::Bad(items) => Fact::Bad(Ids { items }),

@@ -1,5 +1,5 @@
--- What contracts see of a configuration: it is in phase 0, and there are no entries.
-use Rattle.std.specs.Prelude.{◌<◌, ◌≤◌, [], length}
+-- What contracts see of a configuration.
+use Rattle.std.specs.Prelude.{◌<◌, ◌≤◌, length}
 use Rattle.std.specs.List.{AllByRecursion}
 use Rattle.spec_calculus.specs.Syntax.{Protocol}
 use Rattle.spec_calculus.specs.Points.{nodes}
@@ -7,7 +7,7 @@ use Rattle.spec_calculus.specs.Runs as calculus
 use Rattle.pi_configurations.specs.declared.configurations.Conf.{Conf}
 
 abbrev pub configuration_of : Conf → calculus.Configuration
-configuration_of c = record { threads = c.threads; known = c.known; events = c.events; next = c.next; phase = 0; entries = [] }
+configuration_of c = record { threads = c.threads; known = c.known; events = c.events; next = c.next; phase = c.phase; entries = c.entries }
 
 -- a thread that has not ended stands at a point of the protocol
 abbrev pub IsPointOf : Protocol → calculus.Thread → Type 0

@@ -4,11 +4,14 @@ ghost use Rattle.std.specs.Prelude.{◌≡◌, [], ◌∷◌, ◌++◌, ◌+◌,
 ghost use Rattle.pi_tree.specs.Values.{value_of};
 ghost use Rattle.pi_configurations.specs.Changes.{changed};
 ghost use Rattle.pi_configurations.specs.Configurations.{configuration_of};
+ghost use Rattle.held_entries.specs.Entries.{held_of};
 ghost use Rattle.pi_configurations.specs.Happenings.{performed_of};
+ghost use Rattle.pi_configurations.specs.Moves.{entered_in};
 
 use crate::configurations::Conf;
 use crate::happenings::Happened;
 use crate::threads::Thread;
+use held_entries::Held;
 use pi_tree::Value;
 use std::alloc::AllocError;
 
@@ -35,6 +38,10 @@ pub enum Change {
     Advance(u32, u32),
     /// The thread goes to the point, and the event is performed.
     Mark(u32, u32, Happened),
+    /// The thread goes to the point, and the entry is written.
+    Put(u32, u32, Held),
+    /// The phase of that number begins, where each point waits for the phase that is listed, 0 for none.
+    Next(u32, Vec<u32>),
 }
 
 impl Conf {
@@ -56,6 +63,15 @@ impl Conf {
     {
         self.events.items.push(happened)?;
         Ok(())
+    }
+
+    /// The entry is written.
+    fn write(&mut self, held: Held) -> Result<(), AllocError>
+        ensures written { OnOk result (self.new ≡
+            record self.old { entries = self.old.entries ++ held_of held ∷ [] }) }
+        ensures unchanged { OnErr result (self.new ≡ self.old) }
+    {
+        self.entries.push(held)
     }
 
     /// A name of the attacker becomes known.
@@ -107,6 +123,28 @@ impl Conf {
         Ok(())
     }
 
+    /// The thread goes to the point, and the entry is written.
+    fn put(&mut self, number: u32, point: u32, held: Held) -> Result<(), AllocError>
+        ensures put { OnOk result (configuration_of self.new ≡
+            changed (Change.Put number point held) (configuration_of self.old)) }
+        ensures steps { OnOk result (self.new.steps ≡ self.old.steps) }
+        ensures unchanged { OnErr result (self.new ≡ self.old) }
+    {
+        self.write(held)?;
+        self.threads.advance(number, point);
+        Ok(())
+    }
+
+    /// The phase of that number begins.
+    fn enter(&mut self, number: u32, phases: &[u32])
+        ensures entered { configuration_of self.new ≡
+            entered_in phases.now number (configuration_of self.old) }
+        ensures steps { self.new.steps ≡ self.old.steps }
+    {
+        self.phase = number;
+        self.threads.enter(phases, number);
+    }
+
     /// The change is made whole, or for want of memory not at all.
     pub fn change(&mut self, change: Change) -> Result<(), AllocError>
         requires { self.old.next + 1 < 2 ^ 64 }
@@ -140,6 +178,11 @@ impl Conf {
                 Ok(())
             }
             Change::Mark(number, point, happened) => self.mark(number, point, happened),
+            Change::Put(number, point, held) => self.put(number, point, held),
+            Change::Next(number, phases) => {
+                self.enter(number, &phases);
+                Ok(())
+            }
         }
     }
 }

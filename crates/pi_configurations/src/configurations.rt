@@ -12,12 +12,13 @@ ghost use Rattle.pi_configurations.specs.Configurations.{configuration_of, IsCon
 use crate::happenings::Happenings;
 use crate::known::Known;
 use crate::threads::{Thread, Threads};
+use held_entries::Entries;
 use pi_tree::{Declarations, Protocol, Value};
 use std::alloc::{AllocError, Global};
 use term_values::Environment;
 
 /// Where a run stands: its threads, what the attacker knows, the events that were performed, the number of
-/// the next name, and how many steps were applied.
+/// the next name, how many steps were applied, the phase, and the entries of tables.
 #[derive(Drop)]
 pub struct Conf {
     pub threads: Threads,
@@ -25,6 +26,8 @@ pub struct Conf {
     pub events: Happenings,
     pub next: u64,
     pub steps: u64,
+    pub phase: u32,
+    pub entries: Entries,
 }
 
 /// The public names among the free names, in order of declaration.
@@ -41,7 +44,7 @@ fn public_names(alloc: Global, frees: &Declarations) -> Result<Known, AllocError
     Ok(known)
 }
 
-/// One thread at point 1 with nothing bound, and the public free names known.
+/// One thread at point 1 with nothing bound, in phase 0, and the public free names known.
 fn first_configuration(alloc: Global, protocol: &Protocol) -> Result<Conf, AllocError>
     requires { length protocol.now.frees < 2 ^ 32 }
     ensures start { IfOk result (λ conf. configuration_of conf ≡ start (protocol_of protocol.now)) }
@@ -57,10 +60,12 @@ fn first_configuration(alloc: Global, protocol: &Protocol) -> Result<Conf, Alloc
         },
         next: 0,
         steps: 0,
+        phase: 0,
+        entries: Entries::new(alloc),
     })
 }
 
-/// Where each run of the protocol starts: one thread at point 1 with nothing bound, and the public free
+/// Where each run of the protocol starts: one thread at point 1 with nothing bound, in phase 0, and the public free
 /// names known. Memory is taken for these alone.
 #[tactic(auto, using(crate::proofs::Points::of_start))]
 pub fn start(alloc: Global, protocol: &Protocol) -> Result<Conf, AllocError>

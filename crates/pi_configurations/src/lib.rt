@@ -1,7 +1,6 @@
-//! Configurations of runs (Blanchet 2016, section 2.2): their threads, what the attacker knows, their events, and which queries they violate.
+//! Configurations of runs (Blanchet 2016, section 2.2): their threads, what the attacker knows, their events and entries.
 #![tactic(auto)]
 
-mod alternatives;
 pub mod changes;
 pub mod configurations;
 pub mod happenings;
@@ -9,4 +8,3 @@ mod hashes;
 pub mod knowing;
 pub mod known;
 pub mod threads;
-pub mod violations;

@@ -1,9 +1,9 @@
 //! Threads of a configuration.
 
-ghost use Rattle.std.specs.Prelude.{◌≡◌, [], ◌∷◌, ◌++◌, option_map, OnOk, OnErr};
+ghost use Rattle.std.specs.Prelude.{◌≡◌, [], ◌∷◌, ◌++◌, map, option_map, OnOk, OnErr};
 ghost use Rattle.spec_calculus.specs.Points.{numbered, replaced};
 ghost use Rattle.pi_configurations.specs.Threads.{thread_of};
-ghost use Rattle.pi_configurations.specs.Moves.{moved, moved_to};
+ghost use Rattle.pi_configurations.specs.Moves.{moved, moved_to, placed, entered, entered_at};
 
 use std::alloc::AllocError;
 use std::marker::Model;
@@ -44,6 +44,46 @@ impl Thread {
         match self {
             Thread::At(at, _) => *at = point,
             Thread::Ended => {}
+        }
+    }
+}
+
+/// The phase that the point waits for, 0 where it waits for none; `None` where the list has no such point.
+#[tactic(auto, using(crate::proofs::ThreadItems::of_points_listed))]
+fn awaited_at(phases: &[u32], point: u32) -> Option<u32>
+    ensures { result ≡ numbered phases.now point }
+{
+    match point.checked_sub(1) {
+        None => None,
+        Some(index) => match phases.get(index as usize) {
+            None => None,
+            Some(phase) => Some(*phase),
+        },
+    }
+}
+
+impl Thread {
+    /// Where the thread is when the phase of that number begins, by the phase that each point waits for: after its point
+    /// where that waits for this phase, and there where it waits for a later one. Otherwise it ends.
+    #[tactic(auto, using(std::proofs::lemmas::Bool::Decides::nat_tests))]
+    fn place_in(&self, phases: &[u32], number: u32) -> Option<u32>
+        ensures { placed result (thread_of self.now) ≡
+            entered phases.now number (thread_of self.now) }
+    {
+        match self {
+            Thread::Ended => None,
+            Thread::At(point, _) => match awaited_at(phases, *point) {
+                None => None,
+                Some(awaited) => {
+                    if awaited == number {
+                        Some(point.saturating_add(1))
+                    } else if number < awaited {
+                        Some(*point)
+                    } else {
+                        None
+                    }
+                }
+            },
         }
     }
 }
@@ -95,5 +135,30 @@ impl Threads {
     {
         self.items.push(thread)?;
         Ok(())
+    }
+
+    /// The thread at the index, as it is when the phase of that number begins; where there is none nothing changes.
+    #[tactic(auto, using(crate::proofs::ThreadItems::of_phases))]
+    fn enter_at(&mut self, index: usize, phases: &[u32], number: u32)
+        ensures { self.new ≡ entered_at phases.now number self.old index }
+    {
+        if index < self.items.len() {
+            match self.items[index].place_in(phases, number) {
+                None => self.items[index] = Thread::Ended,
+                Some(point) => self.items[index].advance(point),
+            }
+        }
+    }
+
+    /// All threads, as they are when the phase of that number begins, by the phase that each point waits for, 0 where it
+    /// waits for none. A thread that waits for this phase goes on, one that waits for a later phase stays, and every other
+    /// ends.
+    #[tactic(auto, using(crate::proofs::ThreadItems::of_phases))]
+    pub fn enter(&mut self, phases: &[u32], number: u32)
+        ensures { self.new ≡ map (entered phases.now number) self.old }
+    {
+        for index in 0..self.items.len() {
+            self.enter_at(index, phases, number);
+        }
     }
 }

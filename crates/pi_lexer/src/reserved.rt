@@ -10,7 +10,7 @@ fn is(word: &[u8], reserved: &[u8]) -> bool
     word == reserved
 }
 
-/// Whether the word is reserved; those of later forms are too.
+/// Whether the word is reserved.
 pub fn is_reserved(word: &[u8]) -> bool
     ensures { result ≡ is_reserved word.now }
 {

@@ -4,4 +4,5 @@ pub mod Naming
 pub mod Passing
 pub mod Keeping
 pub mod Told
-pub mod Plain
+pub mod NextPhase
+pub mod TableSteps

@@ -10,7 +10,7 @@ use Rattle.spec_calculus.specs.Refusals as cause
 use Rattle.spec_calculus.specs.Refusals.{Refusal, Cause, first_cause, where_true, at_output, at_input, no_thread, refusal}
 use Rattle.spec_calculus.specs.Limits.{is_large, terms_at, listed, written, evaluated}
 use Rattle.pi_model.specs.declared.errors.StepError.{StepError}
-use Rattle.pi_model.specs.declared.errors.StepError.TheVariants.{NoThread, WrongForm, UnknownChannel, ChannelsDiffer, NoKnowledge, NoRule, NotFailing, NotPublic, Large}
+use Rattle.pi_model.specs.declared.errors.StepError.TheVariants.{NoThread, WrongForm, UnknownChannel, ChannelsDiffer, NoKnowledge, NoRule, NotFailing, NotPublic, NoEntry, Large}
 use Rattle.pi_configurations.specs.Moves.{advanced}
 use Rattle.pi_model.specs.Plans.{IsPossible, IsRefused, Stands, StandsNowhere}
 use Rattle.spec_calculus.proofs.Equality.{same_value-sound, same_value-refl}
@@ -81,6 +81,7 @@ module _ (P : Protocol) (c : Configuration) (i j : ℕ) where
   ended a k NoRule there h = absurd h
   ended a k NotFailing there h = absurd h
   ended a k NotPublic there h = absurd h
+  ended a k NoEntry there h = absurd h
   ended a k Large there h = absurd h
 
   pub pass-ended_sender : (e : StepError) → no_thread c i ≡ false → no_thread c j ≡ false → StandsNowhere c i e → IsRefused P c (Pass i j) cause.WrongForm

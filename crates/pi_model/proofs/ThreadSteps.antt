@@ -13,7 +13,7 @@ use Rattle.spec_calculus.specs.Refusals as cause
 use Rattle.spec_calculus.specs.Refusals.{Refusal, Cause, first_cause, where_true, takes, is_public_constructor, first_arity, reduces, at_split, at_copy, at_make, at_output, at_input, at_take, at_fail, at_mark, no_thread, refusal}
 use Rattle.spec_calculus.specs.Limits.{is_large, terms_at, listed, written, tried, all_tried, evaluated}
 use Rattle.pi_model.specs.declared.errors.StepError.{StepError}
-use Rattle.pi_model.specs.declared.errors.StepError.TheVariants.{NoThread, WrongForm, UnknownChannel, ChannelsDiffer, NoKnowledge, NoRule, NotFailing, NotPublic, Large}
+use Rattle.pi_model.specs.declared.errors.StepError.TheVariants.{NoThread, WrongForm, UnknownChannel, ChannelsDiffer, NoKnowledge, NoRule, NotFailing, NotPublic, NoEntry, Large}
 use Rattle.pi_model.specs.Errors.{refusal_of}
 use Rattle.pi_configurations.specs.Moves.{moved_to, moved, advanced}
 use Rattle.pi_model.specs.Plans.{IsPossible, IsRefused, Stands, StandsNowhere}
@@ -64,7 +64,7 @@ module _ (P : Protocol) (c : Configuration) where
   large step r l = record { refused = ap (λ o. option_or o (cond (list_any is_large (evaluated P c step)) (Some cause.Large) None)) r ∙ ap (λ b. cond b (Some cause.Large) None) l }
 
   -- the two causes that each step of one thread may have first
-  nowhere : {A : Type 0} (a : ℕ → Environment → Process → Option A) (rest : List Cause) (i : ℕ) (e : StepError) → StandsNowhere c i e → first_cause (where_true cause.NoThread (no_thread c i) ∷ where_true cause.WrongForm (is_none (acting P c i a)) ∷ rest) ≡ Some (refusal_of e)
+  pub nowhere : {A : Type 0} (a : ℕ → Environment → Process → Option A) (rest : List Cause) (i : ℕ) (e : StepError) → StandsNowhere c i e → first_cause (where_true cause.NoThread (no_thread c i) ∷ where_true cause.WrongForm (is_none (acting P c i a)) ∷ rest) ≡ Some (refusal_of e)
   nowhere a rest i NoThread h = ap (λ o. first_cause (where_true cause.NoThread (is_none o) ∷ where_true cause.WrongForm (is_none (acting P c i a)) ∷ rest)) h
   nowhere a rest i WrongForm h =
       ap (λ o. first_cause (where_true cause.NoThread (is_none o) ∷ where_true cause.WrongForm (is_none (acting P c i a)) ∷ rest)) h
@@ -75,14 +75,15 @@ module _ (P : Protocol) (c : Configuration) where
   nowhere a rest i NoRule h = absurd h
   nowhere a rest i NotFailing h = absurd h
   nowhere a rest i NotPublic h = absurd h
+  nowhere a rest i NoEntry h = absurd h
   nowhere a rest i Large h = absurd h
 
-  elsewhere : {A : Type 0} (a : ℕ → Environment → Process → Option A) (rest : List Cause) (i p : ℕ) (s : Environment) (q : Process) → Stands P c i p s q → a p s q ≡ None → first_cause (where_true cause.NoThread (no_thread c i) ∷ where_true cause.WrongForm (is_none (acting P c i a)) ∷ rest) ≡ Some cause.WrongForm
+  pub elsewhere : {A : Type 0} (a : ℕ → Environment → Process → Option A) (rest : List Cause) (i p : ℕ) (s : Environment) (q : Process) → Stands P c i p s q → a p s q ≡ None → first_cause (where_true cause.NoThread (no_thread c i) ∷ where_true cause.WrongForm (is_none (acting P c i a)) ∷ rest) ≡ Some cause.WrongForm
   elsewhere a rest i p s q h e =
       ap (λ o. first_cause (where_true cause.NoThread (is_none o) ∷ where_true cause.WrongForm (is_none (acting P c i a)) ∷ rest)) h.thread
       ∙ ap (λ o. first_cause (where_true cause.WrongForm (is_none o) ∷ rest)) (acting_stands a i p s q h ∙ e)
 
-  here : {A : Type 0} (a : ℕ → Environment → Process → Option A) (rest : List Cause) (i p : ℕ) (s : Environment) (q : Process) (x : A) → Stands P c i p s q → a p s q ≡ Some x → first_cause (where_true cause.NoThread (no_thread c i) ∷ where_true cause.WrongForm (is_none (acting P c i a)) ∷ rest) ≡ first_cause rest
+  pub here : {A : Type 0} (a : ℕ → Environment → Process → Option A) (rest : List Cause) (i p : ℕ) (s : Environment) (q : Process) (x : A) → Stands P c i p s q → a p s q ≡ Some x → first_cause (where_true cause.NoThread (no_thread c i) ∷ where_true cause.WrongForm (is_none (acting P c i a)) ∷ rest) ≡ first_cause rest
   here a rest i p s q x h e =
       ap (λ o. first_cause (where_true cause.NoThread (is_none o) ∷ where_true cause.WrongForm (is_none (acting P c i a)) ∷ rest)) h.thread
       ∙ ap (λ o. first_cause (where_true cause.WrongForm (is_none o) ∷ rest)) (acting_stands a i p s q h ∙ e)
@@ -139,7 +140,7 @@ module _ (P : Protocol) (c : Configuration) where
       ∙ (ap (λ o. first_cause (where_true cause.UnknownChannel (not (option_map_or (knows c) o false)) ∷ [])) (acting_stands at_output i p s (Output channel message next) h)
       ∙ ap (λ b. first_cause (where_true cause.UnknownChannel (not b) ∷ [])) k)
 
-  written-values : (i p : ℕ) (s : Environment) (q : Process) (b : Bool) → Stands P c i p s q → list_any is_large (values_of s (terms_at q)) ≡ b → list_any is_large (listed P c i written) ≡ b
+  pub written-values : (i p : ℕ) (s : Environment) (q : Process) (b : Bool) → Stands P c i p s q → list_any is_large (values_of s (terms_at q)) ≡ b → list_any is_large (listed P c i written) ≡ b
   written-values i p s q b h l = ap (list_any is_large) (listed_stands i p s q written h) ∙ l
 
   pub hear-unknown : (i p : ℕ) (s : Environment) (channel message : Term) (next : Process) → Stands P c i p s (Output channel message next) → knows c (value_of s channel) ≡ false → IsRefused P c (Hear i) cause.UnknownChannel

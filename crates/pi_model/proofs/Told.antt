@@ -8,7 +8,7 @@ use Rattle.spec_calculus.specs.Refusals as cause
 use Rattle.spec_calculus.specs.Refusals.{Refusal, first_cause, where_true, refusal, IsUniform}
 use Rattle.spec_calculus.specs.Limits.{is_large, evaluated, limited_refusal}
 use Rattle.spec_calculus.proofs.Refusals.{refusals_are_exact}
-use Rattle.pi_model.specs.declared.errors.StepError.TheVariants.{NoThread, WrongForm, UnknownChannel, ChannelsDiffer, NoKnowledge, NoRule, NotFailing, NotPublic, Large}
+use Rattle.pi_model.specs.declared.errors.StepError.TheVariants.{NoThread, WrongForm, UnknownChannel, ChannelsDiffer, NoKnowledge, NoRule, NotFailing, NotPublic, NoEntry, Large}
 use Rattle.pi_model.specs.declared.errors.ApplyError.{ApplyError}
 use Rattle.pi_model.specs.declared.errors.ApplyError.TheVariants.{Refused, Memory}
 use Rattle.pi_model.specs.Answers.{IsRefusalOf, TellsWhether}
@@ -117,6 +117,7 @@ module _ (P : Protocol) (c : Configuration) (step : Step) (uniform : IsUniform P
   told (Refused NoRule) e = impossible cause.NoRule (λ x. cc) e
   told (Refused NotFailing) e = impossible cause.NotFailing (λ x. cc) e
   told (Refused NotPublic) e = impossible cause.NotPublic (λ x. cc) e
+  told (Refused NoEntry) e = impossible cause.NoEntry (λ x. cc) e
   told (Refused Large) e = too_large e
   told (Memory x) e = tt
 

@@ -4,7 +4,7 @@ use Rattle.std.specs.List.{list_any}
 use Rattle.spec_calculus.specs.Syntax.{Protocol}
 use Rattle.spec_calculus.specs.Runs.{Configuration, Step, after_step}
 use Rattle.spec_calculus.specs.Limits.{is_large, evaluated, limited_refusal}
-use Rattle.pi_model.specs.declared.errors.StepError.TheVariants.{NoThread, WrongForm, UnknownChannel, ChannelsDiffer, NoKnowledge, NoRule, NotFailing, NotPublic, Large}
+use Rattle.pi_model.specs.declared.errors.StepError.TheVariants.{NoThread, WrongForm, UnknownChannel, ChannelsDiffer, NoKnowledge, NoRule, NotFailing, NotPublic, NoEntry, Large}
 use Rattle.pi_model.specs.declared.errors.ApplyError.{ApplyError}
 use Rattle.pi_model.specs.declared.errors.ApplyError.TheVariants.{Refused, Memory}
 use Rattle.pi_model.specs.Errors.{refusal_of}
@@ -24,5 +24,6 @@ TellsWhether P c step (Refused NoKnowledge) = after_step P c step ≡ None
 TellsWhether P c step (Refused NoRule) = after_step P c step ≡ None
 TellsWhether P c step (Refused NotFailing) = after_step P c step ≡ None
 TellsWhether P c step (Refused NotPublic) = after_step P c step ≡ None
+TellsWhether P c step (Refused NoEntry) = after_step P c step ≡ None
 TellsWhether P c step (Refused Large) = IsSome (after_step P c step) × (list_any is_large (evaluated P c step) ≡ true)
 TellsWhether P c step (Memory e) = Unit {0}

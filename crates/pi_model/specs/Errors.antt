@@ -1,7 +1,7 @@
 -- What contracts see of a refusal of a step.
 use Rattle.spec_calculus.specs.Refusals as calculus
 use Rattle.pi_model.specs.declared.errors.StepError.{StepError}
-use Rattle.pi_model.specs.declared.errors.StepError.TheVariants.{NoThread, WrongForm, UnknownChannel, ChannelsDiffer, NoKnowledge, NoRule, NotFailing, NotPublic, Large}
+use Rattle.pi_model.specs.declared.errors.StepError.TheVariants.{NoThread, WrongForm, UnknownChannel, ChannelsDiffer, NoKnowledge, NoRule, NotFailing, NotPublic, NoEntry, Large}
 
 abbrev pub refusal_of : StepError → calculus.Refusal
 refusal_of NoThread = calculus.NoThread
@@ -12,4 +12,5 @@ refusal_of NoKnowledge = calculus.NoKnowledge
 refusal_of NoRule = calculus.NoRule
 refusal_of NotFailing = calculus.NotFailing
 refusal_of NotPublic = calculus.NotPublic
+refusal_of NoEntry = calculus.NoEntry
 refusal_of Large = calculus.Large

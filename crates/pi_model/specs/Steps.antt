@@ -1,7 +1,7 @@
 -- What contracts see of a step.
 use Rattle.spec_calculus.specs.Runs as calculus
 use Rattle.pi_model.specs.declared.steps.Step.{Step}
-use Rattle.pi_model.specs.declared.steps.Step.TheVariants.{Build, Reduce, Part, Fresh, Split, Copy, Make, Pass, Hear, Say, Take, Fail, Mark, Next, Put, Fetch, Miss}
+use Rattle.pi_model.specs.declared.steps.Step.TheVariants.{Build, Reduce, Part, Fresh, Split, Copy, Make, Pass, Hear, Say, Take, Fail, Mark, Next, Insert, Get, Miss}
 
 abbrev pub step_of : Step → calculus.Step
 step_of (Build constructor arguments) = calculus.Build constructor arguments
@@ -18,6 +18,6 @@ step_of (Take thread label) = calculus.Take thread label
 step_of (Fail thread) = calculus.Fail thread
 step_of (Mark thread) = calculus.Mark thread
 step_of Next = calculus.Next
-step_of (Put thread) = calculus.Put thread
-step_of (Fetch thread entry) = calculus.Fetch thread entry
+step_of (Insert thread) = calculus.Put thread
+step_of (Get thread entry) = calculus.Fetch thread entry
 step_of (Miss thread) = calculus.Miss thread

@@ -16,11 +16,12 @@ ghost use Rattle.pi_model.specs.Steps.{step_of};
 use crate::attacker::{build, part, reduce};
 use crate::choices::{fail, take};
 use crate::errors::ApplyError;
-use crate::phases::{fetch, miss, next, put};
+use crate::phases::next;
 use crate::processes::{copy, hear, make, mark, split};
 use crate::receiving::{pass, say};
 use crate::running::Run;
 use crate::steps::Step;
+use crate::tables::{fetch, miss, put};
 use pi_configurations::changes::Change;
 use pi_configurations::configurations::Conf;
 use pi_tree::Protocol;
@@ -57,8 +58,8 @@ fn plan(alloc: Global, protocol: &Protocol, conf: &Conf, step: &Step) -> Result<
         Step::Fail(thread) => fail(&run, *thread),
         Step::Mark(thread) => mark(&run, *thread),
         Step::Next => next(&run),
-        Step::Put(thread) => put(&run, *thread),
-        Step::Fetch(thread, entry) => fetch(&run, *thread, *entry),
+        Step::Insert(thread) => put(&run, *thread),
+        Step::Get(thread, entry) => fetch(&run, *thread, *entry),
         Step::Miss(thread) => miss(&run, *thread),
     }
 }

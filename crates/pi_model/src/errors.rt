@@ -12,7 +12,7 @@ pub enum StepError {
     #[error("there is no such thread")]
     NoThread,
     /// The thread stands at another form or has ended; there is no such constructor, destructor or part; the number
-    /// of arguments is another.
+    /// of arguments is another; there is no later phase.
     #[error("the step is of another form than what is there")]
     WrongForm,
     /// The channel is not known.
@@ -27,12 +27,15 @@ pub enum StepError {
     /// There is no such rule or no such choice of rules, or they do not all apply, or the value does not match.
     #[error("no rule applies, or its value does not match")]
     NoRule,
-    /// A value matches.
-    #[error("a value matches")]
+    /// A value matches, or an entry may be taken.
+    #[error("a value matches, or an entry may be taken")]
     NotFailing,
     /// The constructor is private.
     #[error("the constructor is private")]
     NotPublic,
+    /// There is no such entry, or it is of another table, or its values do not match or do not meet the condition.
+    #[error("there is no such entry, or it may not be taken")]
+    NoEntry,
     /// A value that the step evaluates or makes is over the limit of size.
     #[error("a value is over the limit of size")]
     Large,

@@ -40,7 +40,7 @@ pub fn equality_is_decided()
 {}
 
 /// Each name that is made is new: in every configuration that a run reaches, the name that is made
-/// next stands in no value that is known, bound or performed. A step that makes a name takes that
+/// next stands in no value that is known, bound, performed or written. A step that makes a name takes that
 /// number, and no other step does. So names that different steps make differ: where a step makes a name,
 /// each name that is made after it has a greater number.
 #[tactic(auto, using(spec_calculus::proofs::Freshness::next_is_new, spec_calculus::proofs::Growth::numbers_are_taken, crate::proofs::Naming::later_names_differ))]

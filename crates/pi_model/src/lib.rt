@@ -14,6 +14,7 @@ mod receiving;
 mod running;
 mod standing;
 pub mod steps;
+mod tables;
 
 pub use crate::application::apply;
 pub use crate::errors::{ApplyError, StepError};
@@ -22,10 +23,11 @@ pub use crate::laws::{
     patterns_match_in_one_way, refusals_are_exact, rules_give_instances, steps_only_add,
 };
 pub use crate::steps::{Numbers, Step};
+pub use held_entries::{Entries, Held};
 pub use pi_configurations::configurations::{Conf, start};
 pub use pi_configurations::happenings::{Happened, Happenings};
 pub use pi_configurations::known::Known;
 pub use pi_configurations::threads::{Thread, Threads};
-pub use pi_configurations::violations::violated;
 pub use pi_tree::Slot;
+pub use query_violations::violated;
 pub use term_values::Environment;

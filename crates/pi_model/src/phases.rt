@@ -1,49 +1,69 @@
-//! Steps of phases and of tables. No process waits for a phase or has a table, so each is refused.
+//! The step by which the next phase begins.
 
-ghost use Rattle.std.specs.Prelude.{IfOk, IfErr};
+ghost use Rattle.std.specs.Prelude.{◌≡◌, ◌++◌, map, IfOk, IfErr, OnOk};
+ghost use Rattle.spec_calculus.specs.Points.{nodes};
 ghost use Rattle.spec_calculus.specs.Runs as calculus;
+ghost use Rattle.pi_tree.specs.Processes.{process_of};
+ghost use Rattle.pi_configurations.specs.Moves.{awaited};
 ghost use Rattle.pi_model.specs.Running.{Changes, Refuses};
 
 use crate::errors::{ApplyError, StepError};
 use crate::running::Run;
-use crate::standing::standing_of;
 use pi_configurations::changes::Change;
+use pi_tree::Process;
+use std::alloc::AllocError;
 
-/// The next phase begins: there is none.
-#[tactic(auto, using(crate::proofs::Plain::of_phases))]
-pub fn next(_run: &Run) -> Result<Change, ApplyError>
-    ensures possible { IfOk result (Changes _run.now calculus.Next) }
-    ensures refused { IfErr result (Refuses _run.now calculus.Next) }
+/// The phase that the process waits for, 0 where it waits for none.
+fn awaited(process: &Process) -> u32
+    ensures { result ≡ awaited (process_of process.now) }
 {
-    Err(ApplyError::Refused(StepError::WrongForm))
+    match process {
+        Process::Phase(number, _) => *number,
+        _ => 0,
+    }
 }
 
-/// The thread writes its entry: none stands at such a form.
-#[tactic(auto, using(crate::proofs::Plain::of_tables))]
-pub fn put(run: &Run, number: u32) -> Result<Change, ApplyError>
-    ensures possible { IfOk result (Changes run.now (calculus.Put number)) }
-    ensures refused { IfErr result (Refuses run.now (calculus.Put number)) }
+/// Lists the phase that each node of the process waits for, in pre-order, at the end of the list.
+#[tactic(auto, using(crate::proofs::NextPhase::of_listing))]
+fn list_awaited(process: &Process, phases: &mut Vec<u32>) -> Result<(), AllocError>
+    ensures { OnOk result (phases.new.items ≡
+        phases.old.items ++ map awaited (nodes (process_of process.now))) }
 {
-    let _at = standing_of(run, number)?;
-    Err(ApplyError::Refused(StepError::WrongForm))
+    phases.push(awaited(process))?;
+    match process {
+        Process::Nil => Ok(()),
+        Process::Output(_, _, next) => list_awaited(next, phases),
+        Process::Input(_, _, next) => list_awaited(next, phases),
+        Process::Par(left, right) => {
+            list_awaited(left, phases)?;
+            list_awaited(right, phases)
+        }
+        Process::Copies(copied) => list_awaited(copied, phases),
+        Process::New(_, next) => list_awaited(next, phases),
+        Process::Let(_, _, next, otherwise) => {
+            list_awaited(next, phases)?;
+            list_awaited(otherwise, phases)
+        }
+        Process::Event(_, next) => list_awaited(next, phases),
+        Process::Phase(_, next) => list_awaited(next, phases),
+        Process::Insert(_, _, next) => list_awaited(next, phases),
+        Process::Get(_, _, _, next, otherwise) => {
+            list_awaited(next, phases)?;
+            list_awaited(otherwise, phases)
+        }
+    }
 }
 
-/// The thread takes the entry, the second number: none stands at such a form.
-#[tactic(auto, using(crate::proofs::Plain::of_tables))]
-pub fn fetch(run: &Run, number: u32, _entry: u32) -> Result<Change, ApplyError>
-    ensures possible { IfOk result (Changes run.now (calculus.Fetch number _entry)) }
-    ensures refused { IfErr result (Refuses run.now (calculus.Fetch number _entry)) }
+/// The next phase begins, unless the protocol has none that is later.
+#[tactic(auto, using(crate::proofs::NextPhase::of_next))]
+pub fn next(run: &Run) -> Result<Change, ApplyError>
+    ensures possible { IfOk result (Changes run.now calculus.Next) }
+    ensures refused { IfErr result (Refuses run.now calculus.Next) }
 {
-    let _at = standing_of(run, number)?;
-    Err(ApplyError::Refused(StepError::WrongForm))
-}
-
-/// The thread goes to its else branch for want of an entry: none stands at such a form.
-#[tactic(auto, using(crate::proofs::Plain::of_tables))]
-pub fn miss(run: &Run, number: u32) -> Result<Change, ApplyError>
-    ensures possible { IfOk result (Changes run.now (calculus.Miss number)) }
-    ensures refused { IfErr result (Refuses run.now (calculus.Miss number)) }
-{
-    let _at = standing_of(run, number)?;
-    Err(ApplyError::Refused(StepError::WrongForm))
+    if run.conf.phase >= run.protocol.greatest_phase() {
+        return Err(ApplyError::Refused(StepError::WrongForm));
+    }
+    let mut phases = Vec::new(run.alloc);
+    list_awaited(&run.protocol.main, &mut phases)?;
+    Ok(Change::Next(run.conf.phase + 1, phases))
 }

@@ -16,7 +16,7 @@ impl Model for Numbers {
     ghost view = { λ a. a.items.items };
 }
 
-/// A step of a run. Threads, known values, constructors, destructors, rules and parts are numbered from 1;
+/// A step of a run. Threads, known values, constructors, destructors, rules, parts and entries are numbered from 1;
 /// the first four steps are the attacker's, and what they make becomes the last known value.
 #[derive(Debug, Drop)]
 pub enum Step {
@@ -50,9 +50,9 @@ pub enum Step {
     /// The next phase begins.
     Next,
     /// The thread writes its entry into its table.
-    Put(u32),
+    Insert(u32),
     /// The thread at a `get` takes the entry, the second number.
-    Fetch(u32, u32),
+    Get(u32, u32),
     /// The thread at a `get` goes to its else branch.
     Miss(u32),
 }

@@ -8,7 +8,7 @@ use Rattle.pi_parser.specs.declared.sketch.QuerySketch.{QuerySketch}
 use Rattle.pi_parser.specs.declared.sketch.QuerySketch.TheVariants.{AttackerNew, Attacker, Correspondence}
 use Rattle.pi_parser.specs.declared.sketch.RuleSketch.{RuleSketch}
 use Rattle.pi_parser.specs.declared.sketch.DeclarationSketch.{DeclarationSketch}
-use Rattle.pi_parser.specs.declared.sketch.DeclarationSketch.TheVariants.{Free, Fun, Data, Reduc, Event, Query, Definition}
+use Rattle.pi_parser.specs.declared.sketch.DeclarationSketch.TheVariants.{Free, Fun, Data, Reduc, Event, Table, Query, Definition}
 use Rattle.pi_parser.specs.declared.sketch.Sketch.{Sketch}
 use Rattle.pi_parser.specs.Terms.{term_of, atom_of}
 use Rattle.pi_parser.specs.Processes.{process_of}
@@ -17,8 +17,8 @@ abbrev pub alternative_of : AlternativeSketch → own.AlternativeSketch
 alternative_of a = record { atom = atom_of a.atom; others = map atom_of a.others.items }
 
 abbrev pub question_of : QuerySketch → own.QuerySketch
-question_of (AttackerNew n x) = own.AttackerNew n x
-question_of (Attacker n t) = own.Attacker n (term_of t)
+question_of (AttackerNew n x o) = own.AttackerNew n x o
+question_of (Attacker n t o) = own.Attacker n (term_of t) o
 question_of (Correspondence n a others) = own.Correspondence n (atom_of a) (map alternative_of others.items)
 
 abbrev pub rule_of : RuleSketch → own.RuleSketch
@@ -30,6 +30,7 @@ declaration_of (Fun n public x a) = own.Fun n public x a
 declaration_of (Data n x a) = own.Data n x a
 declaration_of (Reduc n r rs) = own.Reduc n (rule_of r) (map rule_of rs.items)
 declaration_of (Event n x a) = own.Event n x a
+declaration_of (Table n x a) = own.Table n x a
 declaration_of (Query n q) = own.Query n (question_of q)
 declaration_of (Definition n x p) = own.Definition n x (process_of p)
 

@@ -204,6 +204,25 @@ fn event(classes: &[Class], at: usize) -> Result<(DeclarationSketch, usize), Fau
     ))
 }
 
+/// `table name/arity.`
+fn table(classes: &[Class], at: usize) -> Result<(DeclarationSketch, usize), Fault>
+    requires room { at < length classes.now }
+    requires first { (words classes.now at).class ≡ Class.Table }
+    ensures read { Gives declaration_of result
+        (declaration_by (most_of classes.now) Class.Table (words classes.now) at) }
+    ensures within { IsBehind classes.now at result }
+{
+    let ((name, arity), end) = sized(classes, at + 1)?;
+    Ok((
+        DeclarationSketch::Table {
+            first: at,
+            name,
+            arity,
+        },
+        end,
+    ))
+}
+
 /// `reduc rule; others.`
 fn reduc(alloc: Global, classes: &[Class], at: usize) -> Result<(DeclarationSketch, usize), Fault>
     requires room { at < length classes.now }
@@ -289,6 +308,7 @@ fn declaration(
         Class::Data => data(classes, at),
         Class::Reduc => reduc(alloc, classes, at),
         Class::Event => event(classes, at),
+        Class::Table => table(classes, at),
         Class::Query => query(alloc, classes, at),
         Class::Let => definition(alloc, classes, at),
         _ => Err(Fault::Unexpected(at)),

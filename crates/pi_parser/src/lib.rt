@@ -27,8 +27,9 @@ use crate::declarations::file;
 use crate::error::Fault;
 pub use crate::error::ParseError;
 pub use crate::sketch::{
-    AlternativeSketch, AtomSketch, DeclarationSketch, NextSketch, PatternSketch, PatternsSketch,
-    ProcessSketch, QuerySketch, RuleSketch, Sketch, TermSketch, TermsSketch, UnitSketch,
+    AlternativeSketch, AtomSketch, ConditionSketch, DeclarationSketch, NextSketch, PatternSketch,
+    PatternsSketch, ProcessSketch, QuerySketch, RuleSketch, Sketch, TermSketch, TermsSketch,
+    UnitSketch,
 };
 use crate::words::class_of;
 use pi_lexer::Tokens;

@@ -42,7 +42,7 @@ fn patterns(
 /// Nothing, or arguments in parentheses.
 #[tactic(auto, using(crate::proofs::Lists::arguments_none, crate::proofs::Lists::arguments_fault, crate::proofs::Lists::arguments_unclosed))]
 #[cycle(pattern)]
-fn arguments(
+pub fn arguments(
     alloc: Global,
     classes: &[Class],
     at: usize,

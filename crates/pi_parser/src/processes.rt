@@ -2,13 +2,13 @@
 
 ghost use Rattle.std.specs.Prelude.{◌≡◌, ◌<◌, ◌≤◌, ℕ, false, length, IfOk};
 ghost use Rattle.spec_protocol_grammar.specs.Classes.{words, same};
-ghost use Rattle.spec_protocol_grammar.specs.Reading.{both, next_at, begins_unit, unit_by, unit_at, process_at};
+ghost use Rattle.spec_protocol_grammar.specs.Reading.{both, arguments_at, pattern_at, condition_at, next_at, begins_unit, unit_by, unit_at, process_at};
 ghost use Rattle.pi_parser.specs.Gives.{Gives, IsBehind, most_of};
-ghost use Rattle.pi_parser.specs.Processes.{unit_of, next_of, branches_of, process_of};
+ghost use Rattle.pi_parser.specs.Processes.{condition_of, entry_of, unit_of, next_of, branches_of, process_of};
 
 use crate::error::{Fault, lowest};
-use crate::patterns::pattern;
-use crate::sketch::{NextSketch, ProcessSketch, UnitSketch};
+use crate::patterns::{arguments, pattern};
+use crate::sketch::{ConditionSketch, NextSketch, PatternsSketch, ProcessSketch, UnitSketch};
 use crate::terms::{atom, term};
 use crate::words::{class_at, is_at, mark};
 use spec_protocol_grammar::Class;
@@ -231,6 +231,113 @@ fn if_then(
     Ok((UnitSketch::If(at, first, second, unit, otherwise), end))
 }
 
+/// `phase number`, and what follows.
+#[cycle(process)]
+fn phase(
+    alloc: Global,
+    classes: &[Class],
+    at: usize,
+    left: usize,
+) -> Result<(UnitSketch, usize), Fault>
+    requires room { at < length classes.now }
+    requires first { (words classes.now at).class ≡ Class.Phase }
+    ensures read { Gives unit_of result (unit_by (most_of classes.now) left
+        (unit_at (most_of classes.now) left) (process_at (most_of classes.now) left) Class.Phase
+        (words classes.now) at) }
+    ensures within { IsBehind classes.now at result }
+{
+    let number = at + 1;
+    let behind = mark(classes, number, Class::Number)?;
+    let (next, end) = next(alloc, classes, behind, left, Class::Semicolon)?;
+    Ok((UnitSketch::Phase(at, number, next), end))
+}
+
+/// `insert table(arguments)`, and what follows.
+#[cycle(process)]
+fn insert(
+    alloc: Global,
+    classes: &[Class],
+    at: usize,
+    left: usize,
+) -> Result<(UnitSketch, usize), Fault>
+    requires room { at < length classes.now }
+    requires first { (words classes.now at).class ≡ Class.Insert }
+    ensures read { Gives unit_of result (unit_by (most_of classes.now) left
+        (unit_at (most_of classes.now) left) (process_at (most_of classes.now) left) Class.Insert
+        (words classes.now) at) }
+    ensures within { IsBehind classes.now at result }
+{
+    let (entry, behind) = atom(alloc, classes, at + 1, left)?;
+    let (next, end) = next(alloc, classes, behind, left, Class::Semicolon)?;
+    Ok((UnitSketch::Insert(at, entry, next), end))
+}
+
+/// Nothing, or `suchthat left = right`.
+fn condition(
+    alloc: Global,
+    classes: &[Class],
+    at: usize,
+    left: usize,
+) -> Result<(ConditionSketch, usize), Fault>
+    requires { at ≤ length classes.now }
+    ensures read { Gives condition_of result (condition_at (most_of classes.now) left
+        (words classes.now) at) }
+    ensures within { IfOk result (λ x. (at ≤ x.1) × (x.1 ≤ length classes.now)) }
+{
+    if is_at(classes, at, Class::Suchthat) {
+        let (first, equals) = term(alloc, classes, at + 1, left)?;
+        let right = mark(classes, equals, Class::Equals)?;
+        let (second, end) = term(alloc, classes, right, left)?;
+        Ok((ConditionSketch::SuchThat(first, second), end))
+    } else {
+        Ok((ConditionSketch::Always, at))
+    }
+}
+
+/// The patterns of an entry, and the condition.
+fn entry(
+    alloc: Global,
+    classes: &[Class],
+    at: usize,
+    left: usize,
+) -> Result<((PatternsSketch, ConditionSketch), usize), Fault>
+    requires { at ≤ length classes.now }
+    ensures read { Gives entry_of result (both
+        (arguments_at (most_of classes.now) (pattern_at (most_of classes.now) left))
+        (condition_at (most_of classes.now) left) (words classes.now) at) }
+    ensures within { IfOk result (λ x. (at ≤ x.1) × (x.1 ≤ length classes.now)) }
+{
+    let (patterns, behind) = arguments(alloc, classes, at, left)?;
+    let (condition, end) = condition(alloc, classes, behind, left)?;
+    Ok(((patterns, condition), end))
+}
+
+/// `get table(patterns) in unit`, with a condition and its else branch.
+#[cycle(process)]
+fn get_in(
+    alloc: Global,
+    classes: &[Class],
+    at: usize,
+    left: usize,
+) -> Result<(UnitSketch, usize), Fault>
+    requires room { at < length classes.now }
+    requires first { (words classes.now at).class ≡ Class.Get }
+    ensures read { Gives unit_of result (unit_by (most_of classes.now) left
+        (unit_at (most_of classes.now) left) (process_at (most_of classes.now) left) Class.Get
+        (words classes.now) at) }
+    ensures within { IsBehind classes.now at result }
+{
+    let table = at + 1;
+    let inside = mark(classes, table, Class::Name)?;
+    let ((patterns, condition), word) = entry(alloc, classes, inside, left)?;
+    let body = mark(classes, word, Class::In)?;
+    let ((unit, otherwise), end) = branches(alloc, classes, body, left)?;
+    Ok((
+        UnitSketch::Get(at, table, patterns, condition, unit, otherwise),
+        end,
+    ))
+}
+
 #[tactic(auto, using(crate::proofs::Levels::begins_unit_other))]
 fn begins_unit(class: Class) -> bool
     ensures { result ≡ begins_unit class }
@@ -247,6 +354,9 @@ fn begins_unit(class: Class) -> bool
             | Class::Event
             | Class::Let
             | Class::If
+            | Class::Phase
+            | Class::Insert
+            | Class::Get
     )
 }
 
@@ -279,6 +389,9 @@ fn unit(
         Class::Event => happens(alloc, classes, at, left - 1),
         Class::Let => let_in(alloc, classes, at, left - 1),
         Class::If => if_then(alloc, classes, at, left - 1),
+        Class::Phase => phase(alloc, classes, at, left - 1),
+        Class::Insert => insert(alloc, classes, at, left - 1),
+        Class::Get => get_in(alloc, classes, at, left - 1),
         _ => Err(Fault::Unexpected(at)),
     }
 }

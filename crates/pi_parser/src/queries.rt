@@ -2,7 +2,7 @@
 
 ghost use Rattle.std.specs.Prelude.{◌≡◌, ◌<◌, ◌≤◌, ℕ, length, IfOk};
 ghost use Rattle.spec_protocol_grammar.specs.Classes.{words};
-ghost use Rattle.spec_protocol_grammar.specs.Reading.{built, list_of, list_at, happening_at, alternative_at, alternatives_at, question_by, question_at};
+ghost use Rattle.spec_protocol_grammar.specs.Reading.{built, list_of, list_at, happening_at, alternative_at, alternatives_at, phase_at, question_by, question_at};
 ghost use Rattle.pi_parser.specs.Gives.{Gives, IsBehind, most_of};
 ghost use Rattle.pi_parser.specs.Terms.{atom_of};
 ghost use Rattle.pi_parser.specs.Files.{alternative_of, alternatives_of, question_of};
@@ -92,7 +92,22 @@ fn alternatives(
     }
 }
 
-/// `attacker(new name)` or `attacker(message)`.
+/// Nothing, or `phase number`.
+fn asked_phase(classes: &[Class], at: usize) -> Result<(Option<usize>, usize), Fault>
+    requires { at ≤ length classes.now }
+    ensures read { Gives (λ x. x) result (phase_at (words classes.now) at) }
+    ensures within { IfOk result (λ x. (at ≤ x.1) × (x.1 ≤ length classes.now)) }
+{
+    if is_at(classes, at, Class::Phase) {
+        let number = at + 1;
+        let behind = mark(classes, number, Class::Number)?;
+        Ok((Some(number), behind))
+    } else {
+        Ok((None, at))
+    }
+}
+
+/// `attacker(new name)` or `attacker(message)`, and its phase.
 fn attacker(alloc: Global, classes: &[Class], at: usize) -> Result<(QuerySketch, usize), Fault>
     requires room { at < length classes.now }
     requires first { (words classes.now at).class ≡ Class.Attacker }
@@ -105,11 +120,13 @@ fn attacker(alloc: Global, classes: &[Class], at: usize) -> Result<(QuerySketch,
         let name = inside + 1;
         let close = mark(classes, name, Class::Name)?;
         let behind = mark(classes, close, Class::Close)?;
-        Ok((QuerySketch::AttackerNew(at, name), behind))
+        let (phase, end) = asked_phase(classes, behind)?;
+        Ok((QuerySketch::AttackerNew(at, name, phase), end))
     } else {
         let (message, close) = term(alloc, classes, inside, MOST_LEVELS)?;
         let behind = mark(classes, close, Class::Close)?;
-        Ok((QuerySketch::Attacker(at, message), behind))
+        let (phase, end) = asked_phase(classes, behind)?;
+        Ok((QuerySketch::Attacker(at, message, phase), end))
     }
 }
 

@@ -102,11 +102,20 @@ impl Model for PatternsSketch {
     ghost size_decreases = { λ a h. patterns_fall a.items.items };
 }
 
-/// An event, `name(arguments)`, or `name` alone where there are no arguments.
+/// An event or an entry, `name(arguments)`, or `name` alone where there are no arguments.
 #[derive(Debug, Drop)]
 pub struct AtomSketch {
     pub first: usize,
     pub arguments: TermsSketch,
+}
+
+/// What is asked of an entry besides its patterns.
+#[derive(Debug, Drop)]
+pub enum ConditionSketch {
+    /// Nothing.
+    Always,
+    /// `suchthat left = right`.
+    SuchThat(TermSketch, TermSketch),
 }
 
 /// A process.
@@ -143,6 +152,12 @@ pub enum UnitSketch {
     Let(usize, PatternSketch, TermSketch, Box<UnitSketch>, NextSketch),
     /// `if left = right then unit`, and its else branch.
     If(usize, TermSketch, TermSketch, Box<UnitSketch>, NextSketch),
+    /// `phase number`.
+    Phase(usize, usize, NextSketch),
+    /// `insert table(arguments)`.
+    Insert(usize, AtomSketch, NextSketch),
+    /// `get table(patterns) in unit`, with a condition and its else branch.
+    Get(usize, usize, PatternsSketch, ConditionSketch, Box<UnitSketch>, NextSketch),
 }
 
 impl Drop for UnitSketch {
@@ -179,6 +194,17 @@ impl Drop for UnitSketch {
                 drop(unit);
                 drop(otherwise);
             }
+            UnitSketch::Phase(_, _, next) => drop(next),
+            UnitSketch::Insert(_, entry, next) => {
+                drop(entry);
+                drop(next);
+            }
+            UnitSketch::Get(_, _, patterns, condition, unit, otherwise) => {
+                drop(patterns);
+                drop(condition);
+                drop(unit);
+                drop(otherwise);
+            }
         }
     }
 }
@@ -200,13 +226,13 @@ pub struct AlternativeSketch {
     pub others: Vec<AtomSketch>,
 }
 
-/// What a query asks.
+/// What a query asks; of secrets with the number behind the word `phase`, if there is one.
 #[derive(Debug, Drop)]
 pub enum QuerySketch {
     /// `attacker(new name)`.
-    AttackerNew(usize, usize),
+    AttackerNew(usize, usize, Option<usize>),
     /// `attacker(message)`.
-    Attacker(usize, TermSketch),
+    Attacker(usize, TermSketch, Option<usize>),
     /// `event atom ==> alternatives`, or `event atom ==> false` where there are none.
     Correspondence(usize, AtomSketch, Vec<AlternativeSketch>),
 }
@@ -250,6 +276,12 @@ pub enum DeclarationSketch {
     },
     /// `event name/arity.`
     Event {
+        first: usize,
+        name: usize,
+        arity: usize,
+    },
+    /// `table name/arity.`
+    Table {
         first: usize,
         name: usize,
         arity: usize,

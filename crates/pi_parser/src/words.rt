@@ -19,8 +19,8 @@ fn is(text: &[u8], spelling: &[u8]) -> bool
     text == spelling
 }
 
-/// The reserved words of the grammar; the others are reserved for later.
-const RESERVED: [(&[u8], Class); 17] = [
+/// The reserved words.
+const RESERVED: [(&[u8], Class); 22] = [
     (b"private", Class::Private),
     (b"free", Class::Free),
     (b"fun", Class::Fun),
@@ -38,6 +38,11 @@ const RESERVED: [(&[u8], Class); 17] = [
     (b"if", Class::If),
     (b"then", Class::Then),
     (b"else", Class::Else),
+    (b"phase", Class::Phase),
+    (b"table", Class::Table),
+    (b"insert", Class::Insert),
+    (b"get", Class::Get),
+    (b"suchthat", Class::Suchthat),
 ];
 
 /// The symbols.
@@ -57,7 +62,7 @@ const SYMBOLS: [(&[u8], Class); 13] = [
     (b"->", Class::Arrow),
 ];
 
-/// The class that a table gives a text, `Later` where it gives none.
+/// The class that a table gives a text, `Other` where it gives none.
 fn class_among(table: &[(&[u8], Class)], text: &[u8]) -> Class
     ensures { result ≡ class_among (table_of table.now) text.now }
 {
@@ -66,7 +71,7 @@ fn class_among(table: &[(&[u8], Class)], text: &[u8]) -> Class
             return entry.1;
         }
     }
-    Class::Later
+    Class::Other
 }
 
 /// The class of a reserved word.
@@ -141,24 +146,29 @@ fn code(class: Class) -> u8
         Class::If => 14,
         Class::Then => 15,
         Class::Else => 16,
-        Class::Later => 17,
-        Class::Open => 18,
-        Class::Close => 19,
-        Class::Comma => 20,
-        Class::Semicolon => 21,
-        Class::Dot => 22,
-        Class::Slash => 23,
-        Class::Equals => 24,
-        Class::Implies => 25,
-        Class::Bar => 26,
-        Class::Or => 27,
-        Class::And => 28,
-        Class::Bang => 29,
-        Class::Arrow => 30,
-        Class::Name => 31,
-        Class::Zero => 32,
-        Class::Number => 33,
-        Class::End => 34,
+        Class::Phase => 17,
+        Class::Table => 18,
+        Class::Insert => 19,
+        Class::Get => 20,
+        Class::Suchthat => 21,
+        Class::Open => 22,
+        Class::Close => 23,
+        Class::Comma => 24,
+        Class::Semicolon => 25,
+        Class::Dot => 26,
+        Class::Slash => 27,
+        Class::Equals => 28,
+        Class::Implies => 29,
+        Class::Bar => 30,
+        Class::Or => 31,
+        Class::And => 32,
+        Class::Bang => 33,
+        Class::Arrow => 34,
+        Class::Name => 35,
+        Class::Zero => 36,
+        Class::Number => 37,
+        Class::Other => 38,
+        Class::End => 39,
     }
 }
 

@@ -13,4 +13,9 @@ numbered-index f xs (suc index) x some within at =
     let read : slice_get xs index ≡ Some x = slice_get_read xs (length xs) index x refl (omega (arith, within, length-map xs f)) at_index in
     slice_get-map f xs index ∙ ap (option_map f) read
 
-pub ruleset by_number = (numbered-index)
+-- the item of a number, by what stands at the index before
+pub numbered-before : {A : Type 0} (items : List A) (number : ℕ) (x : A) → 0 < number → slice_get items (number - 1) ≡ Some x → numbered items number ≡ Some x
+numbered-before items zero x some at = absurd (omega (arith, some))
+numbered-before items (suc index) x some at = let before : suc index - 1 ≡ index = omega arith in subst (λ k. slice_get items k ≡ Some x) before at
+
+pub ruleset by_number = (numbered-index, numbered-before)

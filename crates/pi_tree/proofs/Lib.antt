@@ -1,4 +1,3 @@
 pub mod Numbers
-pub mod Plain
 pub mod Walks
 pub mod Items

@@ -4,7 +4,7 @@ use Rattle.std.specs.Option.{option_map_or}
 use Rattle.spec_calculus.specs.Syntax as calculus
 use Rattle.spec_calculus.specs.Points.{numbered, nodes, is_restriction}
 use Rattle.pi_tree.specs.declared.accessors.Kind.{Kind}
-use Rattle.pi_tree.specs.declared.accessors.Kind.TheVariants.{Free, Ctor, Dtor, Event, Query, Point}
+use Rattle.pi_tree.specs.declared.accessors.Kind.TheVariants.{Free, Ctor, Dtor, Event, Table, Query, Point}
 
 -- a number as it is told: 2^32 - 1 where it is greater
 abbrev pub capped : ℕ → ℕ
@@ -16,6 +16,7 @@ count_of P Free = length P.frees
 count_of P Ctor = length P.constructors
 count_of P Dtor = length P.destructors
 count_of P Event = length P.events
+count_of P Table = length P.tables
 count_of P Query = length P.queries
 count_of P Point = length (nodes P.main)
 
@@ -33,6 +34,7 @@ HasWord P Free number = Unit {0}
 HasWord P Ctor number = Unit {0}
 HasWord P Dtor number = Unit {0}
 HasWord P Event number = Unit {0}
+HasWord P Table number = Unit {0}
 HasWord P Query number = ⊥
 HasWord P Point number = IsRestriction P number
 
@@ -45,6 +47,7 @@ word_of P Free number = option_map (λ d. d.word) (numbered P.frees number)
 word_of P Ctor number = option_map (λ d. d.word) (numbered P.constructors number)
 word_of P Dtor number = option_map (λ d. d.word) (numbered P.destructors number)
 word_of P Event number = option_map (λ d. d.word) (numbered P.events number)
+word_of P Table number = option_map (λ d. d.word) (numbered P.tables number)
 word_of P Query number = None
 word_of P Point number = option_and_then restriction_word (numbered (nodes P.main) number)
 
@@ -59,11 +62,12 @@ publicity_of P Free number = option_map (λ d. d.public) (numbered P.frees numbe
 publicity_of P Ctor number = option_map (λ d. d.public) (numbered P.constructors number)
 publicity_of P kind number = None
 
--- what has arguments: constructors, destructors and events
+-- what has arguments: constructors, destructors, events and tables
 abbrev pub HasArity : Kind → Type 0
 HasArity Ctor = Unit {0}
 HasArity Dtor = Unit {0}
 HasArity Event = Unit {0}
+HasArity Table = Unit {0}
 HasArity kind = ⊥
 
 -- how many arguments a destructor takes: as many as its first rule, since all have as many
@@ -75,4 +79,5 @@ abbrev pub arity_of : calculus.Protocol → Kind → ℕ → Option ℕ
 arity_of P Ctor number = option_map (λ d. d.arity) (numbered P.constructors number)
 arity_of P Dtor number = option_map (λ d. destructor_arity d.rules) (numbered P.destructors number)
 arity_of P Event number = option_map (λ d. d.arity) (numbered P.events number)
+arity_of P Table number = option_map (λ d. d.arity) (numbered P.tables number)
 arity_of P kind number = None

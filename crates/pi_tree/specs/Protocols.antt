@@ -1,5 +1,4 @@
--- What contracts see of a protocol: it declares no tables.
-use Rattle.std.specs.Prelude.{[]}
+-- What contracts see of a protocol.
 use Rattle.spec_calculus.specs.Syntax as calculus
 use Rattle.pi_tree.specs.declared.protocols.Protocol.{Protocol}
 use Rattle.pi_tree.specs.Processes.{process_of}
@@ -10,7 +9,7 @@ protocol_of P = record {
   constructors = P.ctors;
   destructors = P.dtors;
   events = P.events;
-  tables = [];
+  tables = P.tables;
   queries = P.queries;
   main = process_of P.main;
 }

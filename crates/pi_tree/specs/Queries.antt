@@ -1,4 +1,4 @@
--- What contracts see of a query: those of secrecy ask up to phase 0.
+-- What contracts see of a query.
 use Rattle.spec_calculus.specs.Syntax as calculus
 use Rattle.pi_tree.specs.declared.protocols.Query.{Query}
 use Rattle.pi_tree.specs.declared.protocols.Query.TheVariants.{Secret, SecretNew, Corr}
@@ -6,6 +6,6 @@ use Rattle.pi_tree.specs.Terms.{term_of}
 use Rattle.pi_tree.specs.Events.{event_of}
 
 abbrev pub query_of : Query → calculus.Query
-query_of (Secret message) = calculus.Secret (term_of message) 0
-query_of (SecretNew point) = calculus.SecretNew point 0
+query_of (Secret message phase) = calculus.Secret (term_of message) phase
+query_of (SecretNew point phase) = calculus.SecretNew point phase
 query_of (Corr left alternatives) = calculus.Correspondence (event_of left) alternatives

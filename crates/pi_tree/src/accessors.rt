@@ -1,7 +1,7 @@
 //! What a protocol tells of its names, rules, queries and points by their number.
 
 ghost use Rattle.std.specs.Prelude.{◌≡◌, ◌<◌, ◌≤◌, length, map, Some, option_map};
-ghost use Rattle.spec_calculus.specs.Points.{numbered, nodes, name_arguments};
+ghost use Rattle.spec_calculus.specs.Points.{numbered, nodes, name_arguments, greatest_phase};
 ghost use Rattle.pi_tree.specs.Names.{declared_of};
 ghost use Rattle.pi_tree.specs.Rules.{rule_of, destructor_of};
 ghost use Rattle.pi_tree.specs.Queries.{query_of};
@@ -23,12 +23,13 @@ pub enum Kind {
     Ctor,
     Dtor,
     Event,
+    Table,
     Query,
     Point,
 }
 
 /// A number of items, or the greatest number of the type where there are more.
-fn capped(count: usize) -> u32
+pub(crate) fn capped(count: usize) -> u32
     ensures { result ≡ capped count }
 {
     match u32::try_from(count) {
@@ -81,6 +82,7 @@ impl Protocol {
             Kind::Ctor => capped(self.ctors.items.len()),
             Kind::Dtor => capped(self.dtors.items.len()),
             Kind::Event => capped(self.events.items.len()),
+            Kind::Table => capped(self.tables.items.len()),
             Kind::Query => capped(self.queries.items.len()),
             Kind::Point => self.main.count_nodes(),
         }
@@ -98,6 +100,7 @@ impl Protocol {
             Kind::Ctor => self.ctors.declared(number).word.items.as_slice(),
             Kind::Dtor => self.dtors.destructor(number).word.items.as_slice(),
             Kind::Event => self.events.declared(number).word.items.as_slice(),
+            Kind::Table => self.tables.declared(number).word.items.as_slice(),
             Kind::Query => unreachable!(),
             Kind::Point => match self.node(number) {
                 Process::New(word, _) => word.items.as_slice(),
@@ -116,7 +119,7 @@ impl Protocol {
         match kind {
             Kind::Free => self.frees.declared(number).public,
             Kind::Ctor => self.ctors.declared(number).public,
-            Kind::Dtor | Kind::Event | Kind::Query | Kind::Point => unreachable!(),
+            Kind::Dtor | Kind::Event | Kind::Table | Kind::Query | Kind::Point => unreachable!(),
         }
     }
 
@@ -129,7 +132,7 @@ impl Protocol {
         self.ctors.declared(constructor).is_data
     }
 
-    /// How many arguments a constructor, a destructor or an event takes.
+    /// How many arguments a constructor, a destructor, an event or a table takes.
     #[tactic(auto, using(crate::proofs::Items::by_number))]
     pub fn arity(&self, kind: Kind, number: u32) -> u32
         requires there { IsThere (protocol_of self.now) kind number }
@@ -140,6 +143,7 @@ impl Protocol {
             Kind::Ctor => self.ctors.declared(number).arity,
             Kind::Dtor => self.dtors.destructor(number).rules.arity(),
             Kind::Event => self.events.declared(number).arity,
+            Kind::Table => self.tables.declared(number).arity,
             Kind::Free | Kind::Query | Kind::Point => unreachable!(),
         }
     }
@@ -175,16 +179,25 @@ impl Protocol {
         }
     }
 
-    /// How many arguments a name has that is made at the point: one for each message that is received
-    /// above it, and one for each replication above it (Blanchet 2016, section 4: names as functions).
+    /// How many arguments a name has that is made at the point: one for each message that is received above it, one for
+    /// each term of an entry that is taken above it, and one for each replication above it (Blanchet 2016, section 4:
+    /// names as functions). It is the greatest number of the type where there are more.
     #[tactic(auto, using(crate::proofs::Items::by_number))]
     pub fn name_args(&self, point: u32) -> u32
         requires there { (0 < point) × (point ≤ length (nodes (process_of self.now.main))) }
-        ensures { numbered (name_arguments 0 (process_of self.now.main)) point ≡ Some result }
+        ensures { numbered (map capped (name_arguments 0 (process_of self.now.main))) point ≡
+            Some result }
     {
         match self.main.walk(point - 1, 0) {
             Walk::At(_, arguments) => arguments,
             Walk::Past(_) => unreachable!(),
         }
+    }
+
+    /// The greatest phase that the main process names, 0 where it names none.
+    pub fn greatest_phase(&self) -> u32
+        ensures { result ≡ greatest_phase (process_of self.now.main) }
+    {
+        self.main.greatest_phase()
     }
 }

@@ -34,10 +34,11 @@ impl Model for Alternatives {
 /// What is asked of a protocol.
 #[derive(Debug, Drop)]
 pub enum Query {
-    /// Does the attacker never get to know the message?
-    Secret(Term),
-    /// Does the attacker never get to know a name that the restriction at that point made?
-    SecretNew(u32),
+    /// Does the attacker not get to know the message up to the phase, which is the second?
+    Secret(Term, u32),
+    /// Does the attacker not get to know a name that the restriction at that point made, up to the phase, which is
+    /// the second?
+    SecretNew(u32, u32),
     /// Is each event that is an instance of the left one preceded by all events of one of the
     /// alternatives?
     Corr {
@@ -73,6 +74,7 @@ pub struct Protocol {
     pub ctors: Declarations,
     pub dtors: Dtors,
     pub events: Declarations,
+    pub tables: Declarations,
     pub queries: Queries,
     pub main: Process,
 }
@@ -125,8 +127,8 @@ pub fn is_absent(protocol: &Protocol, query: &Query) -> bool
     ensures { IsTrue result ↔ IsAbsent (protocol_of protocol.now) (query_of query.now) }
 {
     match query {
-        Query::Secret(message) => holds_absent(message, protocol),
-        Query::SecretNew(_) | Query::Corr { .. } => false,
+        Query::Secret(message, _) => holds_absent(message, protocol),
+        Query::SecretNew(_, _) | Query::Corr { .. } => false,
     }
 }
 
@@ -149,8 +151,8 @@ impl Query {
         ensures { IfOk result (λ copied. copied ≡ self.now) }
     {
         match self {
-            Query::Secret(message) => Ok(Query::Secret(message.copy(alloc)?)),
-            Query::SecretNew(point) => Ok(Query::SecretNew(*point)),
+            Query::Secret(message, phase) => Ok(Query::Secret(message.copy(alloc)?, *phase)),
+            Query::SecretNew(point, phase) => Ok(Query::SecretNew(*point, *phase)),
             Query::Corr { left, alternatives } => Ok(Query::Corr {
                 left: left.copy(alloc)?,
                 alternatives: alternatives.copy(alloc)?,
@@ -182,6 +184,7 @@ impl Protocol {
             ctors: self.ctors.copy(alloc)?,
             dtors: self.dtors.copy(alloc)?,
             events: self.events.copy(alloc)?,
+            tables: self.tables.copy(alloc)?,
             queries: self.queries.copy(alloc)?,
             main: self.main.copy(alloc)?,
         })

@@ -1,14 +1,14 @@
 //! Terms, patterns, events and processes (Blanchet 2016, section 2.1, untyped).
 
-ghost use Rattle.std.specs.Prelude.{◌≡◌, IfOk};
+ghost use Rattle.std.specs.Prelude.{◌≡◌, length, IfOk};
 ghost use Rattle.spec_trees.specs.Tree.{some_leaf, some_leaves, trees};
 ghost use Rattle.spec_calculus.specs.Syntax as calculus;
-ghost use Rattle.spec_calculus.specs.Absence.{term_holds, some_term, some_pattern, some_hole, process_holds, is_free};
+ghost use Rattle.spec_calculus.specs.Absence.{term_holds, some_term, some_pattern, some_side, some_hole, process_holds, is_free};
 ghost use Rattle.pi_tree.specs.Terms.{term_of};
 ghost use Rattle.pi_tree.specs.Patterns.{pattern_of};
 ghost use Rattle.pi_tree.specs.Expressions.{expression_of};
 ghost use Rattle.pi_tree.specs.Events.{event_of};
-ghost use Rattle.pi_tree.specs.Processes.{process_of};
+ghost use Rattle.pi_tree.specs.Processes.{condition_of, process_of};
 
 use crate::expressions::Expr;
 use crate::names::Word;
@@ -147,6 +147,13 @@ pub enum Process {
     Let(Pat, Expr, Box<Process>, Box<Process>),
     /// Performs an event, and goes on.
     Event(Atom, Box<Process>),
+    /// Waits for the phase of that number, and goes on in it.
+    Phase(u32, Box<Process>),
+    /// Writes the terms into the table of that number, from 1, as one more entry, and goes on.
+    Insert(u32, Terms, Box<Process>),
+    /// Goes on as the first process with an entry of the table of that number, from 1, that matches the patterns and
+    /// with which the condition's two terms have equal values, and as the second where there is none.
+    Get(u32, Pats, Option<(Term, Term)>, Box<Process>, Box<Process>),
 }
 
 impl Term {
@@ -195,6 +202,13 @@ impl Pat {
 }
 
 impl Pats {
+    /// How many patterns there are.
+    pub(crate) fn count(&self) -> usize
+        ensures { result ≡ length self.now }
+    {
+        self.items.len()
+    }
+
     /// Whether a term of one of the patterns holds the free name of that number.
     #[cycle(pattern_holds)]
     pub fn hold_free(&self, number: u32) -> bool
@@ -206,6 +220,16 @@ impl Pats {
             }
         }
         false
+    }
+}
+
+/// Whether one of a condition's two terms holds the free name of that number.
+fn condition_holds(condition: &Option<(Term, Term)>, number: u32) -> bool
+    ensures { result ≡ some_side (is_free number) (condition_of condition.now) }
+{
+    match condition {
+        None => false,
+        Some((left, right)) => left.holds_free(number) || right.holds_free(number),
     }
 }
 
@@ -232,6 +256,16 @@ impl Process {
                     || otherwise.holds_free(number)
             }
             Process::Event(atom, next) => atom.args.hold_free(number) || next.holds_free(number),
+            Process::Phase(_, next) => next.holds_free(number),
+            Process::Insert(_, arguments, next) => {
+                arguments.hold_free(number) || next.holds_free(number)
+            }
+            Process::Get(_, patterns, condition, next, otherwise) => {
+                patterns.hold_free(number)
+                    || condition_holds(condition, number)
+                    || next.holds_free(number)
+                    || otherwise.holds_free(number)
+            }
         }
     }
 }
@@ -372,6 +406,24 @@ impl Process {
                 let atom = atom.copy(alloc)?;
                 boxed(alloc, Process::Event(atom, next))
             }
+            Process::Phase(number, next) => {
+                let next = next.boxed_copy(alloc)?;
+                boxed(alloc, Process::Phase(*number, next))
+            }
+            Process::Insert(table, arguments, next) => {
+                let next = next.boxed_copy(alloc)?;
+                let arguments = arguments.copy(alloc)?;
+                boxed(alloc, Process::Insert(*table, arguments, next))
+            }
+            Process::Get(table, patterns, condition, next, otherwise) => {
+                let next = next.boxed_copy(alloc)?;
+                let otherwise = otherwise.boxed_copy(alloc)?;
+                let (patterns, condition) = wanted_copy(alloc, patterns, condition)?;
+                boxed(
+                    alloc,
+                    Process::Get(*table, patterns, condition, next, otherwise),
+                )
+            }
         }
     }
 }
@@ -428,4 +480,35 @@ fn let_copy(
     let pattern = pattern.copy(alloc)?;
     let expression = expression.copy(alloc)?;
     boxed(alloc, Process::Let(pattern, expression, next, otherwise))
+}
+
+/// A copy of the condition, its terms copied.
+fn condition_copy(
+    alloc: Global,
+    condition: &Option<(Term, Term)>,
+) -> Result<Option<(Term, Term)>, AllocError>
+    ensures { IfOk result (λ copied. copied ≡ condition.now) }
+{
+    match condition {
+        None => Ok(None),
+        Some((left, right)) => {
+            let left = left.copy(alloc)?;
+            let right = right.copy(alloc)?;
+            Ok(Some((left, right)))
+        }
+    }
+}
+
+/// Copies of what is wanted of an entry: of the patterns, and of the condition.
+fn wanted_copy(
+    alloc: Global,
+    patterns: &Pats,
+    condition: &Option<(Term, Term)>,
+) -> Result<(Pats, Option<(Term, Term)>), AllocError>
+    ensures patterns { IfOk result (λ copied. copied.0 ≡ patterns.now) }
+    ensures condition { IfOk result (λ copied. copied.1 ≡ condition.now) }
+{
+    let patterns = patterns.copy(alloc)?;
+    let condition = condition_copy(alloc, condition)?;
+    Ok((patterns, condition))
 }

@@ -16,6 +16,7 @@ pub mod Standing
 pub mod Building
 pub mod Parts
 pub mod Choosing
+pub mod Entering
 pub mod RuledRows
 pub mod Counting
 pub mod Walking

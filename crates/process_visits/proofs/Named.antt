@@ -10,7 +10,7 @@ use Rattle.spec_clauses.specs.Diff.{diff_variables}
 use Rattle.spec_clauses.specs.Variables.{leaves, row_leaves, IsBelow, AreBelow}
 use Rattle.spec_clauses.proofs.Lists.{all_append, all_first, all_second, all_weaker}
 use Rattle.spec_translation.specs.Conversion.{Scope, name_term}
-use Rattle.spec_translation.specs.Visit.{Visit, visit_terms, after_copy, after_new}
+use Rattle.spec_translation.specs.Visit.{Visit, visit_terms, after_copy, after_phase, after_new}
 use Rattle.term_tree.specs.Bank.{tree_at, Names, Grows}
 use Rattle.term_tree.specs.declared.bank.Id.{Id}
 use Rattle.clause_form.specs.Seen.{fact_at, NameTerms, NameFacts}
@@ -77,13 +77,13 @@ below_visit_more n m v up b = record {
   diffs = all_below_more n m up (constrained v) b.diffs;
 }
 
--- a visit in phase 0, without constraints
-abbrev pub IsFirst : Visit → Type 0
-IsFirst v = ([] ≡ v.diffs) × (0 ≡ v.phase)
+-- a visit in the phase, without constraints
+abbrev pub IsInPhase : ℕ → Visit → Type 0
+IsInPhase phase v = ([] ≡ v.diffs) × (phase ≡ v.phase)
 
 -- such a visit whose parts are named is
 pub visit_named : (all : List Term) (made : source.Visit) (v : Visit) → NamesScope all made.scope v.scope → NameFacts all made.hypotheses v.hypotheses → NameTerms all made.messages v.messages → NameTerms all made.sessions v.sessions
-    → IsFirst v → Below made.next v → made.next ≤ most_next + length made.sessions → NamesVisit all made v
+    → IsInPhase made.phase v → Below made.next v → made.next ≤ most_next + length made.sessions → NamesVisit all made v
 visit_named all made v scope hypotheses messages sessions first below room =
     let is : visit_at all made ≡ v = λ i. record { scope = scope.is i; hypotheses = hypotheses.are i; diffs = first.0 i; messages = messages.are i; sessions = sessions.are i; phase = first.1 i } in
     record {
@@ -120,6 +120,15 @@ module _ (old now : List Term) (v : source.Visit) (grows : Grows old now) (known
 
 pub NamesVisit-grows : (old now : List Term) (v : source.Visit) (tree : Visit) → Grows old now → NamesVisit old v tree → NamesVisit now v tree
 NamesVisit-grows old now v tree grows names = subst (λ (w : Visit). NamesVisit now v w) names.is (visit_later old now v grows names.known)
+
+-- in another phase
+pub phased : (all : List Term) (v made : source.Visit) (phase : ℕ) → IsVisitIn all v → made ≡ record v { phase = phase } → NamesVisit all made (after_phase (visit_at all v) phase)
+phased all v made phase known e =
+    let whole : source.Visit = record v { phase = phase } in
+    subst (λ (m : source.Visit). NamesVisit all m (after_phase (visit_at all v) phase)) (sym e) record {
+      known = record { scope = known.scope; hypotheses = known.hypotheses; messages = known.messages; sessions = known.sessions; below = known.below; room = known.room };
+      is = refl;
+    }
 
 -- below a replication
 pub copied : (old now : List Term) (v : source.Visit) (session : Id) (next : ℕ) → Grows old now → IsVisitIn old v → Names now session (Leaf v.next) → next ≡ v.next + 1

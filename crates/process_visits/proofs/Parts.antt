@@ -54,9 +54,9 @@ same_length : (old new : List Term) (s : Subst) (ids made : List Id) → NameTer
 same_length old new s ids made names = sym (length-map made (tree_at new)) ∙ (ap length names.are ∙ (length-map (map (tree_at old) ids) (bind s) ∙ length-map ids (tree_at old)))
 
 -- a visit is named by its parts
-pub visit_under_named : (old mid new : List Term) (s : Subst) (v made : source.Visit) → IsVisitIn old v → Grows mid new → HasBelow s v.next → made.next ≡ v.next → NamesKnown mid made.scope made.hypotheses (visit_under s (visit_at old v))
+pub visit_under_named : (old mid new : List Term) (s : Subst) (v made : source.Visit) → IsVisitIn old v → Grows mid new → HasBelow s v.next → made.next ≡ v.next → made.phase ≡ v.phase → NamesKnown mid made.scope made.hypotheses (visit_under s (visit_at old v))
     → NameTerms new made.messages (map (bind s) (map (tree_at old) v.messages)) → NameTerms new made.sessions (map (bind s) (map (tree_at old) v.sessions)) → NameFacts new made.hypotheses (map (fact_under s) (map (fact_at old) v.hypotheses)) → NamesVisit new made (visit_under s (visit_at old v))
-visit_under_named old mid new s v made known grows below next parts messages sessions facts =
-    visit_named new made (visit_under s (visit_at old v)) (NamesScope-grows mid new made.scope (visit_under s (visit_at old v)).scope grows parts.scope) facts messages sessions (refl, refl)
+visit_under_named old mid new s v made known grows below next phase parts messages sessions facts =
+    visit_named new made (visit_under s (visit_at old v)) (NamesScope-grows mid new made.scope (visit_under s (visit_at old v)).scope grows parts.scope) facts messages sessions (refl, phase)
     (subst (λ n. Below n (visit_under s (visit_at old v))) (sym next) (visit_below s v.next below (visit_at old v) refl (parted v.next (visit_at old v) known.below)))
     (omega (arith, next, known.room, same_length old new s v.sessions made.sessions sessions))

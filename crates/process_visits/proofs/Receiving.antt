@@ -35,7 +35,7 @@ known_append : (all : List Term) (a b : List Held) → IsScopeIn all a → IsSco
 known_append all [] b known more = more
 known_append all (h ∷ a) b known more = (known.0, known_append all a b known.1 more)
 
-scope_append : (all : List Term) (a b : List Held) (s t : Scope) → NamesScope all a s → NamesScope all b t → NamesScope all (a ++ b) (s ++ t)
+pub scope_append : (all : List Term) (a b : List Held) (s t : Scope) → NamesScope all a s → NamesScope all b t → NamesScope all (a ++ b) (s ++ t)
 scope_append all a b s t names more = record {
   known = known_append all a b names.known more.known;
   is = map-append (λ h. record { name = h.name; term = tree_at all h.id }) a b ∙ (λ i. names.is i ++ more.is i);
@@ -92,7 +92,7 @@ sent_below P n phase channel message b c = go (is_public_channel P channel) wher
 
 -- the visit below an input, from the one with what the pattern binds
 module _ (P : Protocol) (v : Visit) (c : calculus.Term) (pattern : Pattern) (from : ℕ) (new : List Term) (w made : source.Visit) (channel message : Id) (fact : Fact Id) where
-  received_from : (bound : WithPattern P v pattern from new w message) → IsBelow from (term_in P v.scope c) → Names new channel (term_in P v.scope c) → NamesFact new fact (sent P 0 (tree_at new channel) (tree_at new message))
+  received_from : (bound : WithPattern P v pattern from new w message) → IsBelow from (term_in P v.scope c) → Names new channel (term_in P v.scope c) → NamesFact new fact (sent P w.phase (tree_at new channel) (tree_at new message))
       → made ≡ record w { hypotheses = w.hypotheses ++ fact ∷ []; messages = w.messages ++ message ∷ [] } → (at : Fresh) × IsFresh v pattern at × NamesVisit new made (after_input P v c pattern at)
   received_from bound below names sent_is e =
       let at = bound.at in
@@ -118,7 +118,7 @@ module _ (P : Protocol) (v : Visit) (c : calculus.Term) (pattern : Pattern) (fro
       (at, bound.is_fresh, subst (λ (m : source.Visit). NamesVisit new m (after_input P v c pattern at)) (sym e) here)
 
 pub received_named : (P : Protocol) (old mid new : List Term) (v w made : source.Visit) (c : calculus.Term) (pattern : Pattern) (channel message : Id) (fact : Fact Id) → Grows old mid → Grows mid new → IsVisitIn old v
-    → WithPattern P (visit_at mid v) pattern v.next new w message → Names mid channel (term_in P (scope_at old v.scope) c) → NamesFact new fact (sent P 0 (tree_at new channel) (tree_at new message))
+    → WithPattern P (visit_at mid v) pattern v.next new w message → Names mid channel (term_in P (scope_at old v.scope) c) → NamesFact new fact (sent P w.phase (tree_at new channel) (tree_at new message))
     → made ≡ record w { hypotheses = w.hypotheses ++ fact ∷ []; messages = w.messages ++ message ∷ [] } → (at : Fresh) × IsFresh (visit_at old v) pattern at × NamesVisit new made (after_input P (visit_at old v) c pattern at)
 received_named P old mid new v w made c pattern channel message fact grows later known bound names sent_is e =
     let same = (visit_later old mid v grows known).is in

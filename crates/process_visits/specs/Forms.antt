@@ -5,11 +5,11 @@ use Rattle.spec_calculus.specs.Syntax.{EventTerm, Pattern, Protocol}
 use Rattle.spec_calculus.specs.Syntax as calculus
 use Rattle.spec_calculus.specs.Limits.{compared}
 use Rattle.spec_terms.specs.Term.{Term}
-use Rattle.spec_clauses.specs.Fact.{Ev, Mev, Clause}
+use Rattle.spec_clauses.specs.Fact.{Tab, Ev, Mev, Clause}
 use Rattle.spec_clauses.specs.Limits.{is_large_raw}
 use Rattle.spec_clauses.specs.Norm.{norms}
 use Rattle.spec_translation.specs.Conversion.{Scope, term_in, Fresh}
-use Rattle.spec_translation.specs.Visit.{Visit, is_large_term, is_large_visit, sent, raw_clause, IsFresh, after_input, event_terms, after_event}
+use Rattle.spec_translation.specs.Visit.{Visit, is_large_term, is_large_visit, sent, raw_clause, IsFresh, after_input, event_terms, after_event, written_terms}
 use Rattle.clause_form.specs.Seen.{NameClauses, IdClause}
 use Rattle.clause_form.specs.Fit.{AreLowWithinLimit}
 use Rattle.process_visits.specs.declared.listing.Listing.{Listing}
@@ -40,6 +40,16 @@ output_raw P v channel message = raw_clause v (sent P v.phase (term_in P v.scope
 
 abbrev pub is_large_output : Protocol → Visit → calculus.Term → calculus.Term → Bool
 is_large_output P v channel message = are_large_in P v.scope (channel ∷ message ∷ []) || is_large_raw (output_raw P v channel message)
+
+-- the raw clause of an entry of these terms, and whether the visit of an `insert` is too large
+abbrev pub raw_insert : Visit → ℕ → List Term → Clause Term
+raw_insert v table arguments = raw_clause v (Tab table arguments)
+
+abbrev pub insert_raw : Protocol → Visit → ℕ → List calculus.Term → Clause Term
+insert_raw P v table arguments = raw_insert v table (written_terms P v arguments)
+
+abbrev pub is_large_insert : Protocol → Visit → ℕ → List calculus.Term → Bool
+is_large_insert P v table arguments = are_large_in P v.scope arguments || is_large_raw (insert_raw P v table arguments)
 
 -- the raw clause of an event with these arguments, the visit below it, and whether one of the two is too large
 abbrev pub raw_event : Visit → ℕ → List Term → Clause Term

@@ -15,3 +15,4 @@ pub mod Solving
 pub mod RuledRows
 pub mod Ways
 pub mod Walks
+pub mod Entries

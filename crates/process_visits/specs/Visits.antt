@@ -9,7 +9,7 @@ use Rattle.clause_terms.specs.Scopes.{scope_at, IsScopeIn}
 use Rattle.process_visits.specs.declared.visit.Visit.{Visit}
 use Rattle.process_visits.specs.Room.{most_next}
 
--- the visit of the trees that the ids name: in phase 0, without constraints
+-- the visit of the trees that the ids name, without constraints
 abbrev pub visit_at : List Term → Visit → translation.Visit
 visit_at all v = record {
   scope = scope_at all v.scope;
@@ -17,7 +17,7 @@ visit_at all v = record {
   diffs = [];
   messages = map (tree_at all) v.messages;
   sessions = map (tree_at all) v.sessions;
-  phase = 0;
+  phase = v.phase;
 }
 
 -- each id of the visit names a tree, and all variables are below the next one, whose number is within its limit but for

@@ -56,17 +56,17 @@ fn is_public_channel<B: Bank>(bank: &B, protocol: &Protocol, channel: Id) -> boo
     }
 }
 
-/// That the message may be sent on the channel in phase 0.
-pub fn sent<B: Bank>(bank: &B, protocol: &Protocol, channel: Id, message: Id) -> Fact
+/// That in the phase the message may be sent on the channel.
+pub fn sent<B: Bank>(bank: &B, protocol: &Protocol, phase: u32, channel: Id, message: Id) -> Fact
     requires channel { channel.index < length (B.trees bank.now) }
     requires message { message.index < length (B.trees bank.now) }
     ensures { NamesFact (B.trees bank.now) (fact_of result)
-        (sent (protocol_of protocol.now) 0 (tree_at (B.trees bank.now) channel)
+        (sent (protocol_of protocol.now) phase (tree_at (B.trees bank.now) channel)
         (tree_at (B.trees bank.now) message)) }
 {
     if is_public_channel(bank, protocol, channel) {
-        Fact::Att(0, message)
+        Fact::Att(phase, message)
     } else {
-        Fact::Mess(0, channel, message)
+        Fact::Mess(phase, channel, message)
     }
 }

@@ -102,7 +102,7 @@ fn received<B: Bank>(
 {
     let channel = term_in(place.alloc, bank, place.protocol, &visit.scope, channel)?;
     let (bound, message) = with_pattern(place, bank, visit, visit.next, pattern)?;
-    let fact = sent(bank, place.protocol, channel, message);
+    let fact = sent(bank, place.protocol, bound.phase, channel, message);
     bound.with_message(fact, message)
 }
 

@@ -75,7 +75,7 @@ pub fn some_large_compared<B: Bank>(
 /// Whether a term with which one of the patterns compares has.
 #[tactic(auto, using(crate::proofs::Tests::of_lists))]
 #[cycle(compared)]
-fn some_large_compared_in<B: Bank>(
+pub fn some_large_compared_in<B: Bank>(
     place: &Place<'_>,
     bank: &B,
     scope: &Scope,

@@ -2,6 +2,7 @@
 
 ghost use Rattle.std.specs.Prelude.{◌≡◌, ◌++◌, IfOk, OnOk};
 ghost use Rattle.spec_trees.specs.Tree.{trees};
+ghost use Rattle.spec_calculus.specs.Tables.{row_pattern};
 ghost use Rattle.pi_tree.specs.Patterns.{pattern_of};
 ghost use Rattle.spec_translation.specs.Conversion.{bound_numbers};
 ghost use Rattle.process_visits.specs.Numbers.{row_numbers};
@@ -36,6 +37,15 @@ fn add_all_bound(patterns: &Pats, numbers: &mut Vec<u32>) -> Result<(), AllocErr
         add_bound(pattern, numbers)?;
     }
     Ok(())
+}
+
+/// The variables that patterns bind, in order.
+pub fn bound_numbers_in(alloc: Global, patterns: &Pats) -> Result<Vec<u32>, AllocError>
+    ensures { IfOk result (λ numbers. numbers.items ≡ bound_numbers (row_pattern patterns.now)) }
+{
+    let mut numbers = Vec::new(alloc);
+    add_all_bound(patterns, &mut numbers)?;
+    Ok(numbers)
 }
 
 /// The variables that a pattern binds, in order.

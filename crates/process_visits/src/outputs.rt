@@ -21,7 +21,7 @@ use crate::listing::Listing;
 use crate::place::Place;
 use crate::visit::Visit;
 use clause_form::{Clause, Diffs, Fact};
-use clause_terms::{Scope, term_in};
+use clause_terms::term_in;
 use pi_tree::Term;
 use std::alloc::AllocError;
 use term_tree::Bank;
@@ -30,23 +30,23 @@ use term_tree::Bank;
 fn sent_in<B: Bank>(
     place: &Place<'_>,
     bank: &mut B,
-    scope: &Scope,
+    visit: &Visit,
     channel: &Term,
     message: &Term,
 ) -> Result<Fact, AllocError>
-    requires scope { IsScopeIn (B.trees bank.old) scope.now }
+    requires scope { IsScopeIn (B.trees bank.old) visit.now.scope }
     requires channel { HasShortTuples (term_of channel.now) }
     requires message { HasShortTuples (term_of message.now) }
     ensures grows { Grows (B.trees bank.old) (B.trees bank.new) }
     ensures names { let P = protocol_at place.now in
-        let bound = scope_at (B.trees bank.old) scope.now in
+        let bound = scope_at (B.trees bank.old) visit.now.scope in
         IfOk result (λ fact. NamesFact (B.trees bank.new) (fact_of fact)
-        (sent P 0 (translation.term_in P bound (term_of channel.now))
+        (sent P visit.now.phase (translation.term_in P bound (term_of channel.now))
         (translation.term_in P bound (term_of message.now)))) }
 {
-    let channel = term_in(place.alloc, bank, place.protocol, scope, channel)?;
-    let message = term_in(place.alloc, bank, place.protocol, scope, message)?;
-    Ok(sent(bank, place.protocol, channel, message))
+    let channel = term_in(place.alloc, bank, place.protocol, &visit.scope, channel)?;
+    let message = term_in(place.alloc, bank, place.protocol, &visit.scope, message)?;
+    Ok(sent(bank, place.protocol, visit.phase, channel, message))
 }
 
 /// The raw clause of an output. On `Err` the bank may have grown.
@@ -66,7 +66,7 @@ fn output_clause<B: Bank>(
         (term_of channel.now) (term_of message.now))) }
 {
     let hyps = visit.hypotheses.copy(place.alloc)?;
-    let concl = sent_in(place, bank, &visit.scope, channel, message)?;
+    let concl = sent_in(place, bank, visit, channel, message)?;
     Ok(Clause {
         hyps,
         diffs: Diffs::new(place.alloc),

@@ -183,6 +183,7 @@ pub fn visit_under<B: Bank>(
                 messages,
                 sessions,
                 next: visit.next,
+                phase: visit.phase,
             }))
         }
     }

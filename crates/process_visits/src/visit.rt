@@ -1,7 +1,7 @@
 //! Visits: what is known where a point is visited.
 
 ghost use Rattle.std.specs.Prelude.{◌≡◌, [], ◌∷◌, ◌++◌, IfOk};
-ghost use Rattle.spec_clauses.specs.Fact.{Mev};
+ghost use Rattle.spec_clauses.specs.Fact.{Tab, Mev};
 ghost use Rattle.clause_form.specs.Facts.{fact_of};
 ghost use Rattle.clause_terms.specs.Slots.{held_of};
 
@@ -11,14 +11,15 @@ use std::alloc::{AllocError, Global};
 use term_tree::Id;
 
 /// What is known where a point is visited: what the leaves stand for, the hypotheses so far, the messages received
-/// above the point, and the numbers of the copies that were taken above it. All variables are below `next`. It is in
-/// phase 0, and has no constraints.
+/// above the point with the terms of the entries taken there, the numbers of the copies that were taken above it, and the
+/// phase. All variables are below `next`. It has no constraints.
 pub struct Visit {
     pub scope: Scope,
     pub hypotheses: Facts,
     pub messages: Ids,
     pub sessions: Ids,
     pub next: u32,
+    pub phase: u32,
 }
 
 /// Written out, so that a visit is let go of by one call.
@@ -30,6 +31,7 @@ impl Drop for Visit {
             messages: _,
             sessions: _,
             next: _,
+            phase: _,
         } = self;
     }
 }
@@ -44,10 +46,10 @@ fn joined(alloc: Global, scope: &Scope, mut bound: Scope) -> Result<Scope, Alloc
 }
 
 impl Visit {
-    /// The first visit, of the main process.
+    /// The first visit, of the main process, in phase 0.
     pub fn first(alloc: Global) -> Visit
         ensures { result ≡
-            record { scope = []; hypotheses = []; messages = []; sessions = []; next = 0 } }
+            record { scope = []; hypotheses = []; messages = []; sessions = []; next = 0; phase = 0 } }
     {
         Visit {
             scope: Scope::new(alloc),
@@ -59,6 +61,7 @@ impl Visit {
                 items: Vec::new(alloc),
             },
             next: 0,
+            phase: 0,
         }
     }
 
@@ -72,6 +75,7 @@ impl Visit {
             messages: self.messages.copy(alloc)?,
             sessions: self.sessions.copy(alloc)?,
             next: self.next,
+            phase: self.phase,
         })
     }
 
@@ -106,6 +110,15 @@ impl Visit {
         Ok(made)
     }
 
+    /// A copy in another phase.
+    pub fn in_phase(&self, alloc: Global, phase: u32) -> Result<Visit, AllocError>
+        ensures { IfOk result (λ made. made ≡ record self.now { phase = phase }) }
+    {
+        let mut made = self.copy(alloc)?;
+        made.phase = phase;
+        Ok(made)
+    }
+
     /// A copy in which leaves are bound besides, and another number for the next variable.
     pub fn with_scope(&self, alloc: Global, bound: Scope, next: u32) -> Result<Visit, AllocError>
         ensures { IfOk result (λ made. made ≡
@@ -117,6 +130,7 @@ impl Visit {
             messages: self.messages.copy(alloc)?,
             sessions: self.sessions.copy(alloc)?,
             next,
+            phase: self.phase,
         })
     }
 
@@ -130,6 +144,20 @@ impl Visit {
     {
         self.hypotheses.push(fact)?;
         self.messages.items.push(message)?;
+        Ok(self)
+    }
+
+    /// The visit with the terms of an entry as messages, and the hypothesis that the table may have it.
+    pub fn with_entry(mut self, alloc: Global, table: u32, terms: Ids) -> Result<Visit, AllocError>
+        ensures { IfOk result (λ made. made ≡
+            record self {
+              hypotheses = self.hypotheses ++ Tab table terms ∷ [];
+              messages = self.messages ++ terms;
+            }) }
+    {
+        let mut more = terms.copy(alloc)?;
+        self.hypotheses.push(Fact::Tab(table, terms))?;
+        self.messages.items.append(&mut more.items)?;
         Ok(self)
     }
 }

@@ -44,6 +44,15 @@ impl Passed {
     }
 }
 
+impl Way {
+    /// Whether the visit that goes on is too large.
+    pub fn is_large(&self) -> bool
+        ensures { result ≡ is_large_way self.now }
+    {
+        matches!(self, Way::Large)
+    }
+}
+
 /// The visit, unless it is too large.
 pub fn way_to<B: Bank>(bank: &B, found: Option<Visit>) -> Way
     requires { IfSome found (λ made. IsVisitIn (B.trees bank.now) made) }

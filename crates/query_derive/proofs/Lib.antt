@@ -3,3 +3,4 @@ pub mod Narrowing
 pub mod Searching
 pub mod Deciding
 pub mod Asking
+pub mod FewArguments

@@ -8,7 +8,7 @@ ghost use Rattle.spec_well_formed.specs.Queries.{HasQueryLeaves, HasProperQuerie
 ghost use Rattle.spec_clauses.specs.Fact.{Bad};
 ghost use Rattle.spec_clauses.specs.Norm.{norms};
 ghost use Rattle.spec_translation.specs.Attacker.{variables_from};
-ghost use Rattle.spec_translation.specs.Goal.{goal_raw};
+ghost use Rattle.spec_translation.specs.Goal.{arguments_at, goal_raw};
 ghost use Rattle.spec_translation.specs.Translation.{goal_clauses};
 ghost use Rattle.pi_tree.specs.Protocols.{protocol_of};
 ghost use Rattle.pi_tree.specs.Queries.{query_of};
@@ -57,8 +57,18 @@ fn variables(alloc: Global, count: u32) -> Result<Trees, AllocError>
     Ok(Trees { items })
 }
 
+/// How many arguments the names of a restriction have.
+fn arguments_at(protocol: &Protocol, point: u32) -> u32
+    requires limits { IsWithinLimits (protocol_of protocol.now) }
+    requires there { (0 < point) × (point ≤ length (nodes (protocol_of protocol.now).main)) }
+    ensures { result ≡ arguments_at (protocol_of protocol.now) point }
+{
+    protocol.name_args(point)
+}
+
 /// The raw goal clause, over owned trees.
 fn raw_goal(alloc: Global, protocol: &Protocol, query: &Query) -> Result<PlainClause, AllocError>
+    requires limits { IsWithinLimits (protocol_of protocol.now) }
     requires small { IsSmallQuery (query_of query.now) }
     requires leaves { HasQueryLeaves (protocol_of protocol.now) (query_of query.now) }
     ensures { IfOk result (λ plain. plain ≡
@@ -68,14 +78,14 @@ fn raw_goal(alloc: Global, protocol: &Protocol, query: &Query) -> Result<PlainCl
         items: Vec::new(alloc),
     };
     match query {
-        Query::Secret(message) => {
+        Query::Secret(message, phase) => {
             let message = tree_of(alloc, protocol, message)?;
-            bad_where(alloc, PlainFact::Att(0, message), none)
+            bad_where(alloc, PlainFact::Att(*phase, message), none)
         }
-        Query::SecretNew(point) => {
-            let arguments = variables(alloc, protocol.name_args(*point))?;
+        Query::SecretNew(point, phase) => {
+            let arguments = variables(alloc, arguments_at(protocol, *point))?;
             let name = Tree::App(Sym::Point(*point), arguments);
-            bad_where(alloc, PlainFact::Att(0, name), none)
+            bad_where(alloc, PlainFact::Att(*phase, name), none)
         }
         Query::Corr { left, .. } => {
             let arguments = trees_of(alloc, protocol, &left.args)?;

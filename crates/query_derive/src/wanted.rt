@@ -240,7 +240,7 @@ pub fn all_wanted(
         all_sought (protocol_of protocol.now) (query_of query.now)) }
 {
     match query {
-        Query::Secret(_) | Query::SecretNew(_) => Ok(Vec::new(alloc)),
+        Query::Secret(..) | Query::SecretNew(..) => Ok(Vec::new(alloc)),
         Query::Corr { left, alternatives } => {
             let mut all = Vec::with_capacity(alloc, alternatives.items.len())?;
             'each: for alternative in &alternatives.items {
@@ -263,7 +263,7 @@ pub fn wanted_at(
         numbered (all_sought (protocol_of protocol.now) (query_of query.now)) number) }
 {
     match query {
-        Query::Secret(_) | Query::SecretNew(_) => Ok(None),
+        Query::Secret(..) | Query::SecretNew(..) => Ok(None),
         Query::Corr { left, alternatives } => match number.checked_sub(1) {
             None => Ok(None),
             Some(index) => match alternatives.items.get(index as usize) {

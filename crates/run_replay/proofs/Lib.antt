@@ -5,3 +5,4 @@ pub mod Reading
 pub mod OneLine
 pub mod Applying
 pub mod Violations
+pub mod Open

@@ -4,30 +4,19 @@ use Rattle.std.specs.Prelude.{option_and_then}
 use Rattle.std.proofs.lemmas.Bool.{cases_lt}
 use Rattle.std.proofs.lemmas.List.{take-append-drop, length-take-le}
 use Rattle.spec_calculus.specs.Points.{numbered}
-use Rattle.run_replay.specs.Reached.{IsDoneSomewhere, TellsViolation, IsViolatedAtEnd, TellsFirst}
+use Rattle.run_replay.specs.Reached.{IsDoneSomewhere, TellsViolation, IsViolatedAtEnd, TellsFirst, IsOpenAfterEach}
 use Rattle.spec_calculus.specs.Syntax.{Protocol, Query}
 use Rattle.spec_calculus.specs.Runs.{Configuration, Step, start, after_steps, run}
 use Rattle.spec_calculus.specs.Secrecy.{IsViolated, IsOpen}
 use Rattle.spec_calculus.specs.Refusals.{Refusal}
 use Rattle.run_replay.specs.Replay.{IsRefusedAt, IsFirstRefused, IsDone, IsViolatedAfter, IsFirstViolation, AreFirstViolations, Replay, Done, Stuck, IsReplayOf}
 use Rattle.spec_calculus.proofs.Points.{numbered-add-one, there-numbered}
-use Rattle.spec_calculus.proofs.Plain.{plain_open}
-use Rattle.pi_tree.specs.declared.protocols.Protocol as source
-use Rattle.pi_tree.specs.Protocols.{protocol_of}
-use Rattle.pi_tree.proofs.Plain.{process_plain}
 use Rattle.run_replay.proofs.Applying.{take_next, some_one, fronts_reach, after_steps-append, take_front, take_all_of, refused_in_front, refused_once}
 
--- steps leave violated what is violated: while the query is open they do, and it is at the end of each run
-abbrev pub Stays : Protocol → Query → Type 0
-Stays P q =
-    ((c d : Configuration) (steps : List Step) → after_steps P c steps ≡ Some d → IsOpen q d → IsViolated q c → IsViolated q d)
-    × ((d : Configuration) (steps : List Step) → run P steps ≡ Some d → IsOpen q d)
-
--- in a protocol, which has phase 0 alone, they do
-pub always_stay : (P : source.Protocol)
-    → ((q : Query) (c d : Configuration) (steps : List Step) → after_steps (protocol_of P) c steps ≡ Some d → IsOpen q d → IsViolated q c → IsViolated q d)
-    → (q : Query) → Stays (protocol_of P) q
-always_stay P stay q = (stay q, λ d steps. plain_open (protocol_of P) q d steps (process_plain P.main))
+-- steps leave violated what is violated while the query is open, and it is after each number of these
+abbrev pub Stays : Protocol → List Step → Query → Type 0
+Stays P steps q =
+    ((c d : Configuration) (more : List Step) → after_steps P c more ≡ Some d → IsOpen q d → IsViolated q c → IsViolated q d) × IsOpenAfterEach P steps q
 
 -- each front of a run that is done is done
 pub front_done : (P : Protocol) (steps : List Step) (n : ℕ) (end : Configuration) → IsDone P steps end → (c : Configuration) × IsDone P (take n steps) c
@@ -41,7 +30,7 @@ front_done P steps n end done =
     )
 
 -- after more steps it is violated too
-pub violated_later : (P : Protocol) (q : Query) (steps : List Step) (end : Configuration) (n m : ℕ) → Stays P q → run P steps ≡ Some end → n ≤ m → IsViolatedAfter P steps q n → IsViolatedAfter P steps q m
+pub violated_later : (P : Protocol) (q : Query) (steps : List Step) (end : Configuration) (n m : ℕ) → Stays P steps q → run P steps ≡ Some end → n ≤ m → IsViolatedAfter P steps q n → IsViolatedAfter P steps q m
 violated_later P q steps end n m stays all le violated =
     let later = fronts_reach P steps m (start P) end all in
     let parts : take m steps ≡ take n steps ++ drop n (take m steps) =
@@ -52,18 +41,18 @@ violated_later P q steps end n m stays all le violated =
       configuration = later.end;
       reached = later.reached;
       violated = stays.0 violated.configuration later.end (drop n (take m steps)) (sym split ∙ later.reached)
-          (stays.1 later.end (take m steps) later.reached) violated.violated;
+          (stays.1 m later.end later.reached) violated.violated;
     }
 
 -- where it is not violated after n steps, it is after no number of steps up to n
-pub not_before : (P : Protocol) (q : Query) (steps : List Step) (end c : Configuration) (n m : ℕ) → Stays P q → run P steps ≡ Some end → run P (take n steps) ≡ Some c → ¬ IsViolated q c → m ≤ n → ¬ IsViolatedAfter P steps q m
+pub not_before : (P : Protocol) (q : Query) (steps : List Step) (end c : Configuration) (n m : ℕ) → Stays P steps q → run P steps ≡ Some end → run P (take n steps) ≡ Some c → ¬ IsViolated q c → m ≤ n → ¬ IsViolatedAfter P steps q m
 not_before P q steps end c n m stays all reached not_violated le violated =
     let later = violated_later P q steps end m n stays all le violated in
     let same = some_one _ _ _ later.reached reached in
     not_violated (subst (IsViolated q) same later.violated)
 
 -- where it is not violated at the end, it never is
-pub never_violated : (P : Protocol) (q : Query) (steps : List Step) (end : Configuration) → Stays P q → run P steps ≡ Some end → ¬ IsViolated q end → IsFirstViolation P steps q None
+pub never_violated : (P : Protocol) (q : Query) (steps : List Step) (end : Configuration) → Stays P steps q → run P steps ≡ Some end → ¬ IsViolated q end → IsFirstViolation P steps q None
 never_violated P q steps end stays all not_violated n violated =
     let most = length steps + n in
     let whole : run P (take most steps) ≡ Some end = ap (run P) (take_all_of steps most (omega arith)) ∙ all in
@@ -170,13 +159,13 @@ IsBetween-true P steps query low high middle between above below told = record {
   at_high = λ q found. front_all P q steps middle (omega (arith, below, between.within)) ((told q found).0 refl);
 }
 
-pub IsBetween-false : (P : Protocol) (steps : List Step) (query low high middle : ℕ) → ((q : Query) → Stays P q) → IsDoneSomewhere P steps → IsBetween P steps query low high → low ≤ middle → middle < high → TellsViolation P (take middle steps) query false → IsBetween P steps query (middle + 1) high
+pub IsBetween-false : (P : Protocol) (steps : List Step) (query low high middle : ℕ) → ((q : Query) → numbered P.queries query ≡ Some q → Stays P steps q) → IsDoneSomewhere P steps → IsBetween P steps query low high → low ≤ middle → middle < high → TellsViolation P (take middle steps) query false → IsBetween P steps query (middle + 1) high
 IsBetween-false P steps query low high middle stays done between above below told = record {
   ordered = omega (arith, below);
   within = between.within;
   not_below = λ q found n less v. (
       let le : middle ≤ length steps = omega (arith, below, between.within) in
-      let at_middle = violated_later P q steps done.0 n middle (stays q) done.1.ends (omega (arith, less)) v in
+      let at_middle = violated_later P q steps done.0 n middle (stays q found) done.1.ends (omega (arith, less)) v in
       let wrong = (told q found).1 (all_front P q steps middle le at_middle) in
       cc wrong);
   at_high = between.at_high;
@@ -216,8 +205,9 @@ pub all_queries : (P : Protocol) (steps : List Step) (index : ℕ) (firsts : Lis
 all_queries P steps index firsts are all = subst (λ qs. AreFirstViolations P steps qs firsts) (take_all_of P.queries index all) are
 
 -- since when the query is violated, by whether it is at the end
-pub never_told : (P : Protocol) (steps : List Step) (query : ℕ) (end : Configuration) → ((q : Query) → Stays P q) → IsDone P steps end → ((q : Query) → numbered P.queries query ≡ Some q → ¬ IsViolated q end) → TellsFirst P steps query None
-never_told P steps query end stays done none = λ q found. never_violated P q steps end (stays q) done.ends (none q found)
+pub never_told : (P : Protocol) (steps : List Step) (query : ℕ) → ((q : Query) → numbered P.queries query ≡ Some q → Stays P steps q) → IsDoneSomewhere P steps → TellsViolation P steps query false → TellsFirst P steps query None
+never_told P steps query stays done told = λ q found. never_violated P q steps done.0 (stays q found) done.1.ends (λ violated. (
+    let wrong = (told q found).1 (violated_at_end P q steps done.0 done.1.ends violated) in cc wrong))
 
-pub violated_told : (P : Protocol) (steps : List Step) (query : ℕ) (end : Configuration) → IsDone P steps end → ((q : Query) → numbered P.queries query ≡ Some q → IsViolated q end) → IsViolatedAtEnd P steps query
-violated_told P steps query end done violated = λ q found. violated_at_end P q steps end done.ends (violated q found)
+pub violated_told : (P : Protocol) (steps : List Step) (query : ℕ) → TellsViolation P steps query true → IsViolatedAtEnd P steps query
+violated_told P steps query told = λ q found. (told q found).0 refl

@@ -1,8 +1,8 @@
 //! Since when a query is violated.
 //!
-//! What is violated stays violated while the query is open, and in phase 0, where each run stays, each query is.
-//! So the least number of steps after which a query is violated is found by bisection, where each try replays a
-//! front of the run: a run of n steps takes n log n steps, and not n looks at all that is known.
+//! What is violated stays violated while the query is open. So among steps at whose ends it is open, the least number
+//! after which it is violated is found by bisection, where each try replays a front of them: n steps take n log n steps,
+//! and not n looks at all that is known.
 
 ghost use Rattle.std.specs.Prelude.{◌≡◌, ◌<◌, ◌≤◌, ◌^◌, ◌↔◌, ℕ, length, map, Some, IfOk, IsTrue, take};
 ghost use Rattle.spec_calculus.specs.Points.{numbered};
@@ -12,7 +12,7 @@ ghost use Rattle.pi_model.specs.Steps.{step_of};
 ghost use Rattle.spec_calculus.specs.Syntax as calculus;
 ghost use Rattle.run_replay.specs.Limits.{IsLimited};
 ghost use Rattle.run_replay.specs.Replay.{IsDone, IsViolatedAfter, IsFirstViolation};
-ghost use Rattle.run_replay.specs.Reached.{IsDoneSomewhere, TellsViolation, TellsFirst, IsViolatedAtEnd};
+ghost use Rattle.run_replay.specs.Reached.{IsDoneSomewhere, TellsViolation, TellsFirst, IsViolatedAtEnd, IsOpenAlong};
 
 use crate::reach::{Reached, reach};
 use pi_model::{Step, steps_only_add, violated};
@@ -20,7 +20,7 @@ use pi_tree::Protocol;
 use std::alloc::{AllocError, Global};
 
 /// Whether the query is violated after these steps, of which none is refused.
-fn violated_after(
+pub fn violated_after(
     alloc: Global,
     protocol: &Protocol,
     steps: &[Step],
@@ -39,7 +39,8 @@ fn violated_after(
     }
 }
 
-/// The least number of steps after which the query is violated, which it is after all of them.
+/// The least number of steps after which the query is violated, which it is after all of them. It is open after each
+/// number of them.
 pub fn first_violation(
     alloc: Global,
     protocol: &Protocol,
@@ -50,6 +51,7 @@ pub fn first_violation(
     requires fewer { length steps.now < 2 ^ 32 }
     requires query { (0 < query) × (query ≤ length protocol.now.queries) }
     requires done { IsDoneSomewhere (protocol_of protocol.now) (map step_of steps.now) }
+    requires still_open { IsOpenAlong (protocol_of protocol.now) (map step_of steps.now) query }
     requires violated { IsViolatedAtEnd (protocol_of protocol.now) (map step_of steps.now) query }
     ensures { IfOk result (λ first. TellsFirst (protocol_of protocol.now) (map step_of steps.now)
         query (Some first)) }

@@ -6,6 +6,7 @@
 mod bisect;
 mod cut;
 mod error;
+mod fronts;
 mod laws;
 mod line;
 mod numbers;

@@ -1,11 +1,13 @@
 -- What is kept of restrictions.
-use Rattle.std.proofs.Common.{◌≡◌, ℕ, suc, ◌+◌, Bool, true, false, if◌then◌else◌, List, [], ◌∷◌, ◌++◌, length, refl, sym, ap, ◌∙◌, arith, append_assoc, ◌⊎◌, inl, inr, Box, Ok}
+use Rattle.std.proofs.Common.{◌≡◌, ℕ, suc, ◌+◌, Bool, true, false, if◌then◌else◌, List, [], ◌∷◌, ◌++◌, length, refl, sym, ap, ◌∙◌, arith, append_assoc, ◌⊎◌, inl, inr, Option, Box, Ok}
 use Rattle.std.specs.Str.{bytes_eq}
 use Rattle.std.specs.declared.alloc.Global.{Global}
 use Rattle.spec_calculus.specs.Syntax.{Process, Nil, Output, Input, Parallel, Replication, New, Event, Phase, Insert, Get}
 use Rattle.spec_calculus.specs.Syntax as calculus
 use Rattle.spec_calculus.specs.Points.{nodes}
 use Rattle.pi_tree.specs.declared.syntax.Process.{Process as Tree, Par, Let}
+use Rattle.pi_tree.specs.declared.syntax.Process as tree
+use Rattle.pi_tree.specs.declared.syntax.Term.{Term}
 use Rattle.pi_tree.specs.declared.syntax.Pat.{Pat}
 use Rattle.pi_tree.specs.declared.expressions.Expr.{Expr}
 use Rattle.pi_tree.specs.Processes.{process_of}
@@ -64,23 +66,31 @@ both_parts word point next left right before after stands is =
     is ∙ ap summary (append_assoc before (points_of word (point + 1) left) (points_of word next right)
     ∙ ap (λ (points : List ℕ). before ++ points) (ap (λ (n : ℕ). points_of word (point + 1) left ++ points_of word n right) stands ∙ sym (points_append word (point + 1) left right)))
 
--- the points of `|` and of a `let` are the next one and those of both parts
-pub parts_of : (word : List ℕ) (point : ℕ) (process : Tree) (left right : Box Tree Global) (one other : Tree)
-    → (process ≡ Par left right) ⊎ ((p : Pat) × (e : Expr) × (process ≡ Let p e left right)) → one ≡ left.value → other ≡ right.value
-    → points_of word (point + 1) (nodes (process_of one) ++ nodes (process_of other)) ≡ points_of word point (nodes (process_of process))
-parts_of word point process left right one other (inl is) l r =
-    ap (λ (x : Tree). points_of word (point + 1) (nodes (process_of x) ++ nodes (process_of other))) l
-    ∙ (ap (λ (x : Tree). points_of word (point + 1) (nodes (process_of left.value) ++ nodes (process_of x))) r
-    ∙ ap (λ (x : Tree). points_of word point (nodes (process_of x))) (sym is))
-parts_of word point process left right one other (inr (p, e, is)) l r =
-    ap (λ (x : Tree). points_of word (point + 1) (nodes (process_of x) ++ nodes (process_of other))) l
-    ∙ (ap (λ (x : Tree). points_of word (point + 1) (nodes (process_of left.value) ++ nodes (process_of x))) r
-    ∙ ap (λ (x : Tree). points_of word point (nodes (process_of x))) (sym is))
+-- a process of two parts: `|`, a `let` or a `get`
+abbrev IsOfParts : Tree → Box Tree Global → Box Tree Global → Type 0
+IsOfParts process left right =
+    (process ≡ Par left right)
+    ⊎ (((p : Pat) × (e : Expr) × (process ≡ Let p e left right))
+    ⊎ ((table : ℕ) × (ps : List calculus.Pattern) × (x : Option (Term × Term)) × (process ≡ tree.Get table ps x left right)))
 
--- what a query for a name's restriction answers, by what is kept of them
-abbrev pub by_seen : ℕ → Seen → Answer calculus.Query
+-- its points are the next one and those of both parts
+module _ (word : List ℕ) (point : ℕ) (process : Tree) (left right : Box Tree Global) (one other : Tree) (l : one ≡ left.value) (r : other ≡ right.value) where
+  by_parts : (whole : Tree) → points_of word (point + 1) (nodes (process_of left.value) ++ nodes (process_of right.value)) ≡ points_of word point (nodes (process_of whole)) → process ≡ whole
+      → points_of word (point + 1) (nodes (process_of one) ++ nodes (process_of other)) ≡ points_of word point (nodes (process_of process))
+  by_parts whole same is =
+      ap (λ (x : Tree). points_of word (point + 1) (nodes (process_of x) ++ nodes (process_of other))) l
+      ∙ (ap (λ (x : Tree). points_of word (point + 1) (nodes (process_of left.value) ++ nodes (process_of x))) r
+      ∙ (same ∙ ap (λ (x : Tree). points_of word point (nodes (process_of x))) (sym is)))
+
+  pub parts_of : IsOfParts process left right → points_of word (point + 1) (nodes (process_of one) ++ nodes (process_of other)) ≡ points_of word point (nodes (process_of process))
+  parts_of (inl is) = by_parts (Par left right) refl is
+  parts_of (inr (inl (p, e, is))) = by_parts (Let p e left right) refl is
+  parts_of (inr (inr (table, ps, x, is))) = by_parts (tree.Get table ps x left right) refl is
+
+-- the point of a name's one restriction, by what is kept of them
+abbrev pub by_seen : ℕ → Seen → Answer ℕ
 by_seen token Nowhere = fault Unknown token
-by_seen token (Once point) = Ok (calculus.SecretNew point 0)
+by_seen token (Once point) = Ok point
 by_seen token Often = fault AmbiguousNew token
 
 kept_only : (token : ℕ) (points : List ℕ) → only_point token points ≡ by_seen token (summary points)

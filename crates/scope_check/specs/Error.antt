@@ -16,7 +16,7 @@ use Rattle.scope_declarations.specs.declared.stop.Stop.{Stop}
 use Rattle.scope_declarations.specs.declared.stop.Stop.TheVariants as stop
 use Rattle.scope_declarations.specs.Answer.{code_of}
 use Rattle.scope_check.specs.declared.error.ScopeError.{ScopeError}
-use Rattle.scope_check.specs.declared.error.ScopeError.TheVariants.{Unknown, Twice, Arity, Kind, LooseVariable, TooMany, AmbiguousNew, LongFile, Memory}
+use Rattle.scope_check.specs.declared.error.ScopeError.TheVariants.{Unknown, Twice, Arity, Kind, LooseVariable, TooMany, AmbiguousNew, PhaseOrder, LongFile, Memory}
 
 -- the refusal and its place; want of memory is none
 abbrev pub refusal_of : ScopeError → Option (spells.Refusal × ℕ)
@@ -27,6 +27,7 @@ refusal_of (Kind place) = Some (Scoped own.Kind, place)
 refusal_of (LooseVariable place) = Some (Scoped own.LooseVariable, place)
 refusal_of (TooMany place) = Some (Scoped own.TooMany, place)
 refusal_of (AmbiguousNew place) = Some (Scoped own.AmbiguousNew, place)
+refusal_of (PhaseOrder place) = Some (Scoped own.PhaseOrder, place)
 refusal_of LongFile = Some (spells.LongFile, 0)
 refusal_of (Memory e) = None
 

@@ -1,6 +1,6 @@
 -- Forms of processes, the macros that they see, and how much of them there is to be read.
 use Rattle.std.specs.Prelude.{ℕ, ◌+◌, Bool, true, false, List, [], ◌∷◌, map, take, Option}
-use Rattle.spec_protocol_grammar.specs.Sketch.{ProcessSketch, Process, BesideSketch, alone, beside, UnitSketch, Zero, Macro, Inner, Replicated, New, Output, Input, Happens, Let, If, NextSketch, omitted, given}
+use Rattle.spec_protocol_grammar.specs.Sketch.{ProcessSketch, Process, BesideSketch, alone, beside, UnitSketch, Zero, Macro, Inner, Replicated, New, Output, Input, Happens, Let, If, Phase, Insert, Get, NextSketch, omitted, given}
 use Rattle.spec_protocol_scope.specs.Names as names
 use Rattle.spec_protocol_scope.specs.Processes as rules
 use Rattle.pi_parser.specs.Processes.{process_of, unit_of}
@@ -20,7 +20,7 @@ form_of (f.Unit u) = Process (unit_of u.now) alone
 
 -- where a process stands
 abbrev pub site_of : Site → rules.Site
-site_of s = record { bound = bound_of s.place.bound.now; above = s.above; used = s.used }
+site_of s = record { bound = bound_of s.place.bound.now; above = s.above; used = s.used; phase = s.phase }
 
 -- what these macros stand for
 abbrev pub macros_of : names.Scope → List RustMacro → rules.Macros
@@ -43,7 +43,7 @@ after_at site first next = rules.after (scope_of site.place.scope) (macros_of (s
 
 -- the site with this macro use
 abbrev pub used_at : Option ℕ → rules.Site → rules.Site
-used_at used site = record { bound = site.bound; above = site.above; used = used }
+used_at used site = record { bound = site.bound; above = site.above; used = used; phase = site.phase }
 
 -- what the macro at that place stands for: it sees those before it
 abbrev pub expansion_at : names.Scope → List RustMacro → ℕ → RustMacro → rules.Expansion
@@ -78,6 +78,9 @@ abbrev mutual
   unit_weight (Happens n a k) = 4 + next_weight k
   unit_weight (Let n p t u k) = 4 + unit_weight u + next_weight k
   unit_weight (If n t v u k) = 4 + unit_weight u + next_weight k
+  unit_weight (Phase n x k) = 4 + next_weight k
+  unit_weight (Insert n a k) = 4 + next_weight k
+  unit_weight (Get n t ps c u k) = 4 + unit_weight u + next_weight k
 
   pub next_weight : NextSketch → ℕ
   next_weight omitted = 1

@@ -35,6 +35,9 @@ pub enum ScopeError {
     /// The name at this place is that of several restrictions.
     #[error("the name at byte {0} is that of several restrictions")]
     AmbiguousNew(usize),
+    /// The phase at this place is not later than the one in force, or in a query past the greatest.
+    #[error("the phase at byte {0} is not later than the one in force, or past the greatest")]
+    PhaseOrder(usize),
     /// The bytes are more than a file may have, so the numbers of their variables might need more than 32 bits.
     #[error("there are more bytes than a file may have")]
     LongFile,
@@ -65,5 +68,6 @@ fn fault_at(code: Code, place: usize) -> ScopeError
         Code::LooseVariable => ScopeError::LooseVariable(place),
         Code::TooMany => ScopeError::TooMany(place),
         Code::AmbiguousNew => ScopeError::AmbiguousNew(place),
+        Code::PhaseOrder => ScopeError::PhaseOrder(place),
     }
 }

@@ -35,6 +35,7 @@ mod error;
 mod expressions;
 mod numbers;
 mod patterns;
+mod phases;
 mod processes;
 mod queries;
 mod site;

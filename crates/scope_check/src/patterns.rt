@@ -89,7 +89,7 @@ fn grouped(token: usize, mut parts: Pats) -> Result<Pat, Stop>
 
 /// How many patterns stand in a row.
 #[tactic(auto, using(crate::proofs::Rows::patterns_seen))]
-fn count_of(sketches: &PatternsSketch) -> usize
+pub fn count_of(sketches: &PatternsSketch) -> usize
     ensures { result ≡ rules.count (patterns_sketch sketches.now) }
 {
     sketches.items.len()
@@ -172,4 +172,22 @@ pub fn whole_pattern(
     let mut found = Bindings::new(alloc);
     let read = pattern(sketch, alloc, place, first, &mut found)?;
     Ok((Box::new(alloc, read)?, found))
+}
+
+/// A row of patterns at this place, and what it binds; its first variable has this number.
+pub fn whole_row(
+    sketches: &PatternsSketch,
+    alloc: Global,
+    place: &Place,
+    first: u32,
+) -> Result<(Pats, Bindings), Stop>
+    requires { first + most_bound ≤ most_variables }
+    ensures read { Gives (λ x. (x.0, map binding_of x.1.items.items)) result
+        (rules.patterns (scope_of place.now.scope) (bound_of place.now.bound.now) first []
+        (patterns_sketch sketches.now)) }
+    ensures finds { IfOk result (λ x. FindsBindings place.now.scope.text x.1) }
+{
+    let mut found = Bindings::new(alloc);
+    let read = patterns(sketches, alloc, place, first, &mut found)?;
+    Ok((read, found))
 }

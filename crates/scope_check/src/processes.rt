@@ -7,7 +7,7 @@ ghost use Rattle.spec_protocol_grammar.specs.Sketch as own;
 ghost use Rattle.pi_parser.specs.Terms as terms_seen;
 ghost use Rattle.pi_parser.specs.Patterns as patterns_seen;
 ghost use Rattle.pi_parser.specs.Processes as sketched;
-ghost use Rattle.pi_tree.specs.Processes.{process_of};
+ghost use Rattle.pi_tree.specs.Processes.{condition_of, process_of};
 ghost use Rattle.scope_declarations.specs.Answer.{Gives};
 ghost use Rattle.scope_declarations.specs.Bound.{binding_of, bound_of, FindsBindings, FindsBound};
 ghost use Rattle.scope_check.specs.Forms.{form_of, site_of, read_at, unit_at, after_at, is_point};
@@ -16,17 +16,21 @@ ghost use Rattle.scope_declarations.specs.Scope.{scope_of};
 
 use crate::expressions::expression;
 use crate::numbers::Numbers;
-use crate::patterns::whole_pattern;
+use crate::patterns::{count_of as count_of_patterns, whole_pattern, whole_row};
+use crate::phases::later_phase;
 use crate::site::{Form, Site, both_reached, open_form, reached};
-use pi_parser::{AtomSketch, NextSketch, PatternSketch, ProcessSketch, TermSketch, UnitSketch};
-use pi_tree::{Expr, Pat, Process, Word};
+use pi_parser::{
+    AtomSketch, ConditionSketch, NextSketch, PatternSketch, PatternsSketch, ProcessSketch,
+    TermSketch, UnitSketch,
+};
+use pi_tree::{Expr, Pat, Process, Term, Word};
 use scope_declarations::bound::{Binding, Bindings, Bound, BoundName, count_of};
-use scope_declarations::leaves::Setting;
+use scope_declarations::leaves::{Setting, table_named};
 use scope_declarations::place::Place;
 use scope_declarations::scope::Scope;
 use scope_declarations::source::Text;
 use scope_declarations::stop::Stop;
-use scope_declarations::terms::{event, process_term};
+use scope_declarations::terms::{entry, event, process_term};
 use scope_declarations::text::text_of;
 use scope_declarations::variables::Variables;
 use std::alloc::Global;
@@ -36,6 +40,14 @@ use std::alloc::Global;
 struct Branches<'a> {
     unit: &'a UnitSketch,
     otherwise: &'a NextSketch,
+}
+
+/// What a `get` asks of an entry.
+#[derive(Clone, Copy)]
+struct Wanted<'a> {
+    table: usize,
+    patterns: &'a PatternsSketch,
+    condition: &'a ConditionSketch,
 }
 
 /// The numbers behind the variables that a pattern binds.
@@ -65,6 +77,26 @@ fn below<'a, 'b>(site: &Site<'a, 'b>, numbers: Numbers) -> Site<'a, 'b>
         macros: site.macros,
         above: site.above + 1,
         used: site.used,
+        phase: site.phase,
+        numbers,
+    }
+}
+
+/// One point further down, in this phase, where these numbers come next.
+fn entering<'a, 'b>(site: &Site<'a, 'b>, phase: u32, numbers: Numbers) -> Site<'a, 'b>
+    requires { site.now.above ≤ most_points_above }
+    ensures placed { site_of result ≡ rules.entering phase (site_of site.now) }
+    ensures seen { result.place ≡ site.now.place }
+    ensures macros { result.macros.now ≡ site.now.macros.now }
+    ensures numbers { result.numbers ≡ numbers }
+{
+    Site {
+        alloc: site.alloc,
+        place: site.place,
+        macros: site.macros,
+        above: site.above + 1,
+        used: site.used,
+        phase,
         numbers,
     }
 }
@@ -88,6 +120,7 @@ fn binding<'a, 'b>(site: &Site<'a, '_>, bound: &'b Bound<'b>, numbers: Numbers) 
         macros: site.macros,
         above: site.above + 1,
         used: site.used,
+        phase: site.phase,
         numbers,
     }
 }
@@ -133,6 +166,16 @@ fn at_point(form: Form, site: &Site) -> Result<(Box<Process>, Numbers), Stop>
             }
             UnitSketch::If(first, left, right, unit, otherwise) => {
                 comparison(&Branches { unit, otherwise }, *first, left, right, site)
+            }
+            UnitSketch::Phase(first, number, next) => waiting(next, *first, *number, site),
+            UnitSketch::Insert(first, atom, next) => insertion(next, *first, atom, site),
+            UnitSketch::Get(first, table, patterns, condition, unit, otherwise) => {
+                let wanted = Wanted {
+                    table: *table,
+                    patterns,
+                    condition,
+                };
+                retrieval(&Branches { unit, otherwise }, *first, &wanted, site)
             }
         },
     }
@@ -328,6 +371,89 @@ fn comparison(
     )
 }
 
+/// `phase number`.
+#[cycle(process)]
+fn waiting(
+    next: &NextSketch,
+    first: usize,
+    number: usize,
+    site: &Site,
+) -> Result<(Box<Process>, Numbers), Stop>
+    ensures { Gives numbered_of result
+        (unit_at site.now (own.Phase first number (sketched.next_of next.now))) }
+{
+    let after = reached(site, first)?;
+    let phase = later_phase(&site.place.scope.text, site.phase, number)?;
+    let (rest, after) = continuation(next, first, &entering(site, phase, after))?;
+    numbered(site.alloc, Process::Phase(phase, rest), after)
+}
+
+/// `insert table(arguments)`.
+#[cycle(process)]
+fn insertion(
+    next: &NextSketch,
+    first: usize,
+    atom: &AtomSketch,
+    site: &Site,
+) -> Result<(Box<Process>, Numbers), Stop>
+    ensures { Gives numbered_of result (unit_at site.now
+        (own.Insert first (terms_seen.atom_of atom.now) (sketched.next_of next.now))) }
+{
+    let after = reached(site, first)?;
+    let (table, arguments) = entry(atom, site.alloc, &site.place)?;
+    let (rest, after) = continuation(next, first, &below(site, after))?;
+    numbered(site.alloc, Process::Insert(table, arguments, rest), after)
+}
+
+/// What is asked of an entry besides its patterns, at this place.
+fn condition(
+    sketch: &ConditionSketch,
+    alloc: Global,
+    place: &Place,
+) -> Result<Option<(Term, Term)>, Stop>
+    ensures { Gives condition_of result (rules.condition (scope_of place.now.scope)
+        (bound_of place.now.bound.now) (sketched.condition_of sketch.now)) }
+{
+    match sketch {
+        ConditionSketch::Always => Ok(None),
+        ConditionSketch::SuchThat(left, right) => {
+            let left = process_term(left, alloc, place)?;
+            let right = process_term(right, alloc, place)?;
+            Ok(Some((Box::into_inner(left), Box::into_inner(right))))
+        }
+    }
+}
+
+/// `get table(patterns) in unit`, with a condition and its else branch.
+#[cycle(process)]
+fn retrieval(
+    branches: &Branches,
+    first: usize,
+    wanted: &Wanted,
+    site: &Site,
+) -> Result<(Box<Process>, Numbers), Stop>
+    ensures { Gives numbered_of result (unit_at site.now (own.Get first wanted.now.table
+        (own.patterns_sketch wanted.now.patterns.now)
+        (sketched.condition_of wanted.now.condition.now)
+        (sketched.unit_of branches.now.unit.now) (sketched.next_of branches.now.otherwise.now))) }
+{
+    let after = reached(site, first)?;
+    let given = count_of_patterns(wanted.patterns);
+    let table = table_named(&site.place.scope, wanted.table, given)?;
+    let (patterns, found) = whole_row(wanted.patterns, site.alloc, &site.place, after.variable)?;
+    let after = with_variables(after, &site.place.scope.text, &found);
+    let bound = Bound::Inside(&found, site.place.bound);
+    let inside = binding(site, &bound, after);
+    let condition = condition(wanted.condition, site.alloc, &inside.place)?;
+    let (done, after) = process(Form::Unit(branches.unit), &inside)?;
+    let (rest, after) = continuation(branches.otherwise, first, &below(site, after))?;
+    numbered(
+        site.alloc,
+        Process::Get(table, patterns, condition, done, rest),
+        after,
+    )
+}
+
 /// A continuation or else branch of the unit that begins with this token.
 #[cycle(process)]
 fn continuation(
@@ -366,6 +492,7 @@ pub fn main_process(
         macros: &scope.names.macros,
         above: 0,
         used: None,
+        phase: 0,
         numbers,
     };
     let (main, _) = process(Form::new(main), &site)?;

@@ -14,6 +14,7 @@ ghost use Rattle.scope_check.specs.Restrictions.{summary};
 ghost use Rattle.scope_declarations.specs.Scope.{scope_of};
 ghost use Rattle.scope_declarations.specs.Variables.{FindsVariables};
 
+use crate::phases::asked_phase;
 use pi_parser::{AlternativeSketch, AtomSketch, DeclarationSketch, QuerySketch};
 use pi_tree::{
     Alternatives, Atom, Atoms, MOST_ALTERNATIVES, MOST_EVENTS, MOST_QUERIES, MOST_WRITTEN_SYMBOLS,
@@ -72,24 +73,28 @@ fn look_for(process: &Process, word: &[u8], point: u32, seen: Seen) -> (Seen, u3
         Process::Output(_, _, rest)
         | Process::Input(_, _, rest)
         | Process::Copies(rest)
-        | Process::Event(_, rest) => look_for(rest, word, point + 1, seen),
-        Process::Par(left, right) | Process::Let(_, _, left, right) => {
+        | Process::Event(_, rest)
+        | Process::Phase(_, rest)
+        | Process::Insert(_, _, rest) => look_for(rest, word, point + 1, seen),
+        Process::Par(left, right)
+        | Process::Let(_, _, left, right)
+        | Process::Get(_, _, _, left, right) => {
             let (seen, next) = look_for(left, word, point + 1, seen);
             look_for(right, word, next, seen)
         }
     }
 }
 
-/// A query for the name of the one restriction of this identifier.
-fn attacker_new(scope: &Scope, main: &Process, token: usize) -> Result<Query, Stop>
+/// The point of the one restriction of this identifier.
+fn attacker_new(scope: &Scope, main: &Process, token: usize) -> Result<u32, Stop>
     requires { length (nodes (process_of main.now)) ≤ most_points }
-    ensures { Gives query_of result (rules.only_point token
+    ensures { Gives (λ point. point) result (rules.only_point token
         (rules.points_of ((scope_of scope.now).text token) 1 (nodes (process_of main.now)))) }
 {
     let word = text_of(&scope.text, token);
     match look_for(main, word, 1, Seen::Nowhere).0 {
         Seen::Nowhere => Err(Stop::Fault(Code::Unknown, token)),
-        Seen::Once(point) => Ok(Query::SecretNew(point)),
+        Seen::Once(point) => Ok(point),
         Seen::Often => Err(Stop::Fault(Code::AmbiguousNew, token)),
     }
 }
@@ -171,14 +176,19 @@ fn question(
         (files.question_of sketch.now)) }
 {
     match sketch {
-        QuerySketch::AttackerNew(_, name) => attacker_new(scope, main, *name),
-        QuerySketch::Attacker(_, message) => {
+        QuerySketch::AttackerNew(_, name, phase) => {
+            let point = attacker_new(scope, main, *name)?;
+            let phase = asked_phase(&scope.text, main, *phase)?;
+            Ok(Query::SecretNew(point, phase))
+        }
+        QuerySketch::Attacker(_, message, phase) => {
             let place = Place {
                 scope: *scope,
                 bound: &Bound::Nothing,
             };
             let message = process_term(message, alloc, &place)?;
-            Ok(Query::Secret(Box::into_inner(message)))
+            let phase = asked_phase(&scope.text, main, *phase)?;
+            Ok(Query::Secret(Box::into_inner(message), phase))
         }
         QuerySketch::Correspondence(_, atom, others) => {
             let mut variables = Variables::new(alloc);

@@ -34,6 +34,8 @@ pub struct Site<'a, 'b> {
     pub above: usize,
     /// The identifier of the outermost macro use that it comes from.
     pub used: Option<usize>,
+    /// The phase in force there.
+    pub phase: u32,
     /// The numbers that come next.
     pub numbers: Numbers,
 }
@@ -149,7 +151,10 @@ fn crowded(scope: &Scope, macros: &[Macro], unit: &UnitSketch) -> Stop
         | UnitSketch::Input(first, _, _, _)
         | UnitSketch::Happens(first, _, _)
         | UnitSketch::Let(first, _, _, _, _)
-        | UnitSketch::If(first, _, _, _, _) => Stop::Fault(Code::TooMany, *first),
+        | UnitSketch::If(first, _, _, _, _)
+        | UnitSketch::Phase(first, _, _)
+        | UnitSketch::Insert(first, _, _)
+        | UnitSketch::Get(first, _, _, _, _, _) => Stop::Fault(Code::TooMany, *first),
     }
 }
 
@@ -221,6 +226,7 @@ fn within<'a, 'b>(site: &Site<'a, 'b>, macros: &'a [Macro<'a>], used: Option<usi
         macros,
         above: site.above,
         used,
+        phase: site.phase,
         numbers: site.numbers,
     }
 }

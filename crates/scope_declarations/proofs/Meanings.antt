@@ -10,7 +10,7 @@ use Rattle.spec_calculus.specs.Bounds.{most_names}
 use Rattle.spec_calculus.specs.Syntax.{Declared, Destructor}
 use Rattle.spec_protocol_scope.specs.Names as own
 use Rattle.spec_protocol_scope.specs.Names.{Texts, find_from, find_declared, arity_of, declared_meaning}
-use Rattle.spec_protocol_scope.specs.Declarations.{with_free, with_constructor, with_destructor, with_event, with_macro}
+use Rattle.spec_protocol_scope.specs.Declarations.{with_free, with_constructor, with_destructor, with_event, with_table, with_macro}
 use Rattle.scope_declarations.specs.declared.names.Meaning.{Meaning}
 use Rattle.scope_declarations.specs.declared.names.Names.{Names}
 use Rattle.scope_declarations.specs.Names.{names_of, meaning_of, IsKept}
@@ -18,19 +18,22 @@ use Rattle.scope_declarations.specs.Tables.{Table, TellsBesides}
 
 -- the names with one of their lists as it is now
 abbrev frees_are : own.Names → List Declared → own.Names
-frees_are names ds = record { frees = ds; constructors = names.constructors; destructors = names.destructors; events = names.events; macros = names.macros }
+frees_are names ds = record { frees = ds; constructors = names.constructors; destructors = names.destructors; events = names.events; tables = names.tables; macros = names.macros }
 
 abbrev constructors_are : own.Names → List Declared → own.Names
-constructors_are names ds = record { frees = names.frees; constructors = ds; destructors = names.destructors; events = names.events; macros = names.macros }
+constructors_are names ds = record { frees = names.frees; constructors = ds; destructors = names.destructors; events = names.events; tables = names.tables; macros = names.macros }
 
 abbrev destructors_are : own.Names → List Destructor → own.Names
-destructors_are names ds = record { frees = names.frees; constructors = names.constructors; destructors = ds; events = names.events; macros = names.macros }
+destructors_are names ds = record { frees = names.frees; constructors = names.constructors; destructors = ds; events = names.events; tables = names.tables; macros = names.macros }
 
 abbrev events_are : own.Names → List Declared → own.Names
-events_are names ds = record { frees = names.frees; constructors = names.constructors; destructors = names.destructors; events = ds; macros = names.macros }
+events_are names ds = record { frees = names.frees; constructors = names.constructors; destructors = names.destructors; events = ds; tables = names.tables; macros = names.macros }
+
+abbrev tables_are : own.Names → List Declared → own.Names
+tables_are names ds = record { frees = names.frees; constructors = names.constructors; destructors = names.destructors; events = names.events; tables = ds; macros = names.macros }
 
 abbrev macros_are : own.Names → List own.Macro → own.Names
-macros_are names ms = record { frees = names.frees; constructors = names.constructors; destructors = names.destructors; events = names.events; macros = ms }
+macros_are names ms = record { frees = names.frees; constructors = names.constructors; destructors = names.destructors; events = names.events; tables = names.tables; macros = ms }
 
 -- one item more in one list is one name more
 pub one_more_free : (names : own.Names) (ds : List Declared) (d : Declared) → ds ≡ names.frees ++ d ∷ [] → frees_are names ds ≡ with_free names d
@@ -45,27 +48,32 @@ one_more_destructor names ds d h = ap (destructors_are names) h
 pub one_more_event : (names : own.Names) (ds : List Declared) (d : Declared) → ds ≡ names.events ++ d ∷ [] → events_are names ds ≡ with_event names d
 one_more_event names ds d h = ap (events_are names) h
 
+pub one_more_table : (names : own.Names) (ds : List Declared) (d : Declared) → ds ≡ names.tables ++ d ∷ [] → tables_are names ds ≡ with_table names d
+one_more_table names ds d h = ap (tables_are names) h
+
 pub one_more_macro : (names : own.Names) (ms : List own.Macro) (m : own.Macro) → ms ≡ names.macros ++ m ∷ [] → macros_are names ms ≡ with_macro names m
 one_more_macro names ms m h = ap (macros_are names) h
 
 -- what a word means, by what is found of each kind
-abbrev chain : (a b c d e : Option own.Meaning) → Option own.Meaning
-chain a b c d e = option_or (option_or a (option_or b (option_or c d))) e
+abbrev chain : (a b c d e f : Option own.Meaning) → Option own.Meaning
+chain a b c d e f = option_or (option_or a (option_or b (option_or c (option_or d e)))) f
 
-record AllNone (a b c d e : Option own.Meaning) : Type 0 where
+record AllNone (a b c d e f : Option own.Meaning) : Type 0 where
   pub first : a ≡ None
   pub second : b ≡ None
   pub third : c ≡ None
   pub fourth : d ≡ None
   pub fifth : e ≡ None
+  pub sixth : f ≡ None
 
-all_none : (a b c d e : Option own.Meaning) → chain a b c d e ≡ None → AllNone a b c d e
-all_none (Some x) b c d e h = absurd (none_some h)
-all_none None (Some x) c d e h = absurd (none_some h)
-all_none None None (Some x) d e h = absurd (none_some h)
-all_none None None None (Some x) e h = absurd (none_some h)
-all_none None None None None (Some x) h = absurd (none_some h)
-all_none None None None None None h = record { first = refl; second = refl; third = refl; fourth = refl; fifth = refl }
+all_none : (a b c d e f : Option own.Meaning) → chain a b c d e f ≡ None → AllNone a b c d e f
+all_none (Some x) b c d e f h = absurd (none_some h)
+all_none None (Some x) c d e f h = absurd (none_some h)
+all_none None None (Some x) d e f h = absurd (none_some h)
+all_none None None None (Some x) e f h = absurd (none_some h)
+all_none None None None None (Some x) f h = absurd (none_some h)
+all_none None None None None None (Some x) h = absurd (none_some h)
+all_none None None None None None None h = record { first = refl; second = refl; third = refl; fourth = refl; fifth = refl; sixth = refl }
 
 -- what is found of each kind
 abbrev frees_at : own.Names → List ℕ → Option own.Meaning
@@ -80,12 +88,15 @@ destructors_at names word = option_map (λ f. own.MeansDestructor f.0 (arity_of 
 abbrev events_at : own.Names → List ℕ → Option own.Meaning
 events_at names word = option_map (λ f. own.MeansEvent f.0 f.1.arity) (find_declared names.events word)
 
+abbrev tables_at : own.Names → List ℕ → Option own.Meaning
+tables_at names word = option_map (λ f. own.MeansTable f.0 f.1.arity) (find_declared names.tables word)
+
 abbrev macros_at : Texts → own.Names → List ℕ → Option own.Meaning
 macros_at text names word = option_map (λ f. own.MeansMacro) (find_from (λ m. text m.name) 1 names.macros word)
 
 none_at : (text : Texts) (names : own.Names) (word : List ℕ) → own.meaning_of text names word ≡ None
-    → AllNone (frees_at names word) (constructors_at names word) (destructors_at names word) (events_at names word) (macros_at text names word)
-none_at text names word h = all_none (frees_at names word) (constructors_at names word) (destructors_at names word) (events_at names word) (macros_at text names word) h
+    → AllNone (frees_at names word) (constructors_at names word) (destructors_at names word) (events_at names word) (tables_at names word) (macros_at text names word)
+none_at text names word h = all_none (frees_at names word) (constructors_at names word) (destructors_at names word) (events_at names word) (tables_at names word) (macros_at text names word) h
 
 -- the names new have one name more than old: this word, which means that
 abbrev pub HasMore : Texts → own.Names → own.Names → List ℕ → own.Meaning → Type 0
@@ -106,10 +117,10 @@ more_free : (text : Texts) (names : own.Names) (d : Declared) → own.meaning_of
 more_free text names d fresh word =
     by_test (bytes_eq d.word word) d.word word (own.MeansFree (length names.frees + 1)) (own.meaning_of text names word) (own.meaning_of text (with_free names d) word) refl
     (λ e. let none = none_at text names word (at_word text names d.word word fresh e) in
-    ap (λ o. chain (option_map (λ f. own.MeansFree f.0) o) (constructors_at names word) (destructors_at names word) (events_at names word) (macros_at text names word))
+    ap (λ o. chain (option_map (λ f. own.MeansFree f.0) o) (constructors_at names word) (destructors_at names word) (events_at names word) (tables_at names word) (macros_at text names word))
     (hit (λ (x : Declared). x.word) 1 names.frees d word e (unmapped _ (find_declared names.frees word) none.first))
     ∙ ap (λ (n : ℕ). Some (own.MeansFree n)) (omega arith))
-    (λ e. ap (λ o. chain (option_map (λ f. own.MeansFree f.0) o) (constructors_at names word) (destructors_at names word) (events_at names word) (macros_at text names word))
+    (λ e. ap (λ o. chain (option_map (λ f. own.MeansFree f.0) o) (constructors_at names word) (destructors_at names word) (events_at names word) (tables_at names word) (macros_at text names word))
     (missed (λ (x : Declared). x.word) 1 names.frees d word e))
 
 more_constructor : (text : Texts) (names : own.Names) (d : Declared) → own.meaning_of text names d.word ≡ None
@@ -117,11 +128,11 @@ more_constructor : (text : Texts) (names : own.Names) (d : Declared) → own.mea
 more_constructor text names d fresh word =
     by_test (bytes_eq d.word word) d.word word (own.MeansConstructor (length names.constructors + 1) d.arity d.is_data) (own.meaning_of text names word) (own.meaning_of text (with_constructor names d) word) refl
     (λ e. let none = none_at text names word (at_word text names d.word word fresh e) in
-    ap (λ o. chain (frees_at names word) (option_map (λ f. own.MeansConstructor f.0 f.1.arity f.1.is_data) o) (destructors_at names word) (events_at names word) (macros_at text names word))
+    ap (λ o. chain (frees_at names word) (option_map (λ f. own.MeansConstructor f.0 f.1.arity f.1.is_data) o) (destructors_at names word) (events_at names word) (tables_at names word) (macros_at text names word))
     (hit (λ (x : Declared). x.word) 1 names.constructors d word e (unmapped _ (find_declared names.constructors word) none.second))
-    ∙ (ap (λ o. chain o (Some (own.MeansConstructor (1 + length names.constructors) d.arity d.is_data)) (destructors_at names word) (events_at names word) (macros_at text names word)) none.first
+    ∙ (ap (λ o. chain o (Some (own.MeansConstructor (1 + length names.constructors) d.arity d.is_data)) (destructors_at names word) (events_at names word) (tables_at names word) (macros_at text names word)) none.first
     ∙ ap (λ (n : ℕ). Some (own.MeansConstructor n d.arity d.is_data)) (omega arith)))
-    (λ e. ap (λ o. chain (frees_at names word) (option_map (λ f. own.MeansConstructor f.0 f.1.arity f.1.is_data) o) (destructors_at names word) (events_at names word) (macros_at text names word))
+    (λ e. ap (λ o. chain (frees_at names word) (option_map (λ f. own.MeansConstructor f.0 f.1.arity f.1.is_data) o) (destructors_at names word) (events_at names word) (tables_at names word) (macros_at text names word))
     (missed (λ (x : Declared). x.word) 1 names.constructors d word e))
 
 more_destructor : (text : Texts) (names : own.Names) (d : Destructor) → own.meaning_of text names d.word ≡ None
@@ -129,12 +140,12 @@ more_destructor : (text : Texts) (names : own.Names) (d : Destructor) → own.me
 more_destructor text names d fresh word =
     by_test (bytes_eq d.word word) d.word word (own.MeansDestructor (length names.destructors + 1) (arity_of d.rules)) (own.meaning_of text names word) (own.meaning_of text (with_destructor names d) word) refl
     (λ e. let none = none_at text names word (at_word text names d.word word fresh e) in
-    ap (λ o. chain (frees_at names word) (constructors_at names word) (option_map (λ f. own.MeansDestructor f.0 (arity_of f.1.rules)) o) (events_at names word) (macros_at text names word))
+    ap (λ o. chain (frees_at names word) (constructors_at names word) (option_map (λ f. own.MeansDestructor f.0 (arity_of f.1.rules)) o) (events_at names word) (tables_at names word) (macros_at text names word))
     (hit (λ (x : Destructor). x.word) 1 names.destructors d word e (unmapped _ (find_from (λ (x : Destructor). x.word) 1 names.destructors word) none.third))
-    ∙ (ap (λ o. chain o (constructors_at names word) (Some (own.MeansDestructor (1 + length names.destructors) (arity_of d.rules))) (events_at names word) (macros_at text names word)) none.first
-    ∙ (ap (λ o. chain None o (Some (own.MeansDestructor (1 + length names.destructors) (arity_of d.rules))) (events_at names word) (macros_at text names word)) none.second
+    ∙ (ap (λ o. chain o (constructors_at names word) (Some (own.MeansDestructor (1 + length names.destructors) (arity_of d.rules))) (events_at names word) (tables_at names word) (macros_at text names word)) none.first
+    ∙ (ap (λ o. chain None o (Some (own.MeansDestructor (1 + length names.destructors) (arity_of d.rules))) (events_at names word) (tables_at names word) (macros_at text names word)) none.second
     ∙ ap (λ (n : ℕ). Some (own.MeansDestructor n (arity_of d.rules))) (omega arith))))
-    (λ e. ap (λ o. chain (frees_at names word) (constructors_at names word) (option_map (λ f. own.MeansDestructor f.0 (arity_of f.1.rules)) o) (events_at names word) (macros_at text names word))
+    (λ e. ap (λ o. chain (frees_at names word) (constructors_at names word) (option_map (λ f. own.MeansDestructor f.0 (arity_of f.1.rules)) o) (events_at names word) (tables_at names word) (macros_at text names word))
     (missed (λ (x : Destructor). x.word) 1 names.destructors d word e))
 
 more_event : (text : Texts) (names : own.Names) (d : Declared) → own.meaning_of text names d.word ≡ None
@@ -142,27 +153,43 @@ more_event : (text : Texts) (names : own.Names) (d : Declared) → own.meaning_o
 more_event text names d fresh word =
     by_test (bytes_eq d.word word) d.word word (own.MeansEvent (length names.events + 1) d.arity) (own.meaning_of text names word) (own.meaning_of text (with_event names d) word) refl
     (λ e. let none = none_at text names word (at_word text names d.word word fresh e) in
-    ap (λ o. chain (frees_at names word) (constructors_at names word) (destructors_at names word) (option_map (λ f. own.MeansEvent f.0 f.1.arity) o) (macros_at text names word))
+    ap (λ o. chain (frees_at names word) (constructors_at names word) (destructors_at names word) (option_map (λ f. own.MeansEvent f.0 f.1.arity) o) (tables_at names word) (macros_at text names word))
     (hit (λ (x : Declared). x.word) 1 names.events d word e (unmapped _ (find_declared names.events word) none.fourth))
-    ∙ (ap (λ o. chain o (constructors_at names word) (destructors_at names word) (Some (own.MeansEvent (1 + length names.events) d.arity)) (macros_at text names word)) none.first
-    ∙ (ap (λ o. chain None o (destructors_at names word) (Some (own.MeansEvent (1 + length names.events) d.arity)) (macros_at text names word)) none.second
-    ∙ (ap (λ o. chain None None o (Some (own.MeansEvent (1 + length names.events) d.arity)) (macros_at text names word)) none.third
+    ∙ (ap (λ o. chain o (constructors_at names word) (destructors_at names word) (Some (own.MeansEvent (1 + length names.events) d.arity)) (tables_at names word) (macros_at text names word)) none.first
+    ∙ (ap (λ o. chain None o (destructors_at names word) (Some (own.MeansEvent (1 + length names.events) d.arity)) (tables_at names word) (macros_at text names word)) none.second
+    ∙ (ap (λ o. chain None None o (Some (own.MeansEvent (1 + length names.events) d.arity)) (tables_at names word) (macros_at text names word)) none.third
     ∙ ap (λ (n : ℕ). Some (own.MeansEvent n d.arity)) (omega arith)))))
-    (λ e. ap (λ o. chain (frees_at names word) (constructors_at names word) (destructors_at names word) (option_map (λ f. own.MeansEvent f.0 f.1.arity) o) (macros_at text names word))
+    (λ e. ap (λ o. chain (frees_at names word) (constructors_at names word) (destructors_at names word) (option_map (λ f. own.MeansEvent f.0 f.1.arity) o) (tables_at names word) (macros_at text names word))
     (missed (λ (x : Declared). x.word) 1 names.events d word e))
+
+more_table : (text : Texts) (names : own.Names) (d : Declared) → own.meaning_of text names d.word ≡ None
+    → HasMore text names (with_table names d) d.word (own.MeansTable (length names.tables + 1) d.arity)
+more_table text names d fresh word =
+    by_test (bytes_eq d.word word) d.word word (own.MeansTable (length names.tables + 1) d.arity) (own.meaning_of text names word) (own.meaning_of text (with_table names d) word) refl
+    (λ e. let none = none_at text names word (at_word text names d.word word fresh e) in
+    ap (λ o. chain (frees_at names word) (constructors_at names word) (destructors_at names word) (events_at names word) (option_map (λ f. own.MeansTable f.0 f.1.arity) o) (macros_at text names word))
+    (hit (λ (x : Declared). x.word) 1 names.tables d word e (unmapped _ (find_declared names.tables word) none.fifth))
+    ∙ (ap (λ o. chain o (constructors_at names word) (destructors_at names word) (events_at names word) (Some (own.MeansTable (1 + length names.tables) d.arity)) (macros_at text names word)) none.first
+    ∙ (ap (λ o. chain None o (destructors_at names word) (events_at names word) (Some (own.MeansTable (1 + length names.tables) d.arity)) (macros_at text names word)) none.second
+    ∙ (ap (λ o. chain None None o (events_at names word) (Some (own.MeansTable (1 + length names.tables) d.arity)) (macros_at text names word)) none.third
+    ∙ (ap (λ o. chain None None None o (Some (own.MeansTable (1 + length names.tables) d.arity)) (macros_at text names word)) none.fourth
+    ∙ ap (λ (n : ℕ). Some (own.MeansTable n d.arity)) (omega arith))))))
+    (λ e. ap (λ o. chain (frees_at names word) (constructors_at names word) (destructors_at names word) (events_at names word) (option_map (λ f. own.MeansTable f.0 f.1.arity) o) (macros_at text names word))
+    (missed (λ (x : Declared). x.word) 1 names.tables d word e))
 
 more_macro : (text : Texts) (names : own.Names) (m : own.Macro) → own.meaning_of text names (text m.name) ≡ None
     → HasMore text names (with_macro names m) (text m.name) own.MeansMacro
 more_macro text names m fresh word =
     by_test (bytes_eq (text m.name) word) (text m.name) word own.MeansMacro (own.meaning_of text names word) (own.meaning_of text (with_macro names m) word) refl
     (λ e. let none = none_at text names word (at_word text names (text m.name) word fresh e) in
-    ap (λ o. chain (frees_at names word) (constructors_at names word) (destructors_at names word) (events_at names word) (option_map (λ f. own.MeansMacro) o))
-    (hit (λ (x : own.Macro). text x.name) 1 names.macros m word e (unmapped _ (find_from (λ (x : own.Macro). text x.name) 1 names.macros word) none.fifth))
-    ∙ (ap (λ o. chain o (constructors_at names word) (destructors_at names word) (events_at names word) (Some own.MeansMacro)) none.first
-    ∙ (ap (λ o. chain None o (destructors_at names word) (events_at names word) (Some own.MeansMacro)) none.second
-    ∙ (ap (λ o. chain None None o (events_at names word) (Some own.MeansMacro)) none.third
-    ∙ ap (λ o. chain None None None o (Some own.MeansMacro)) none.fourth))))
-    (λ e. ap (λ o. chain (frees_at names word) (constructors_at names word) (destructors_at names word) (events_at names word) (option_map (λ f. own.MeansMacro) o))
+    ap (λ o. chain (frees_at names word) (constructors_at names word) (destructors_at names word) (events_at names word) (tables_at names word) (option_map (λ f. own.MeansMacro) o))
+    (hit (λ (x : own.Macro). text x.name) 1 names.macros m word e (unmapped _ (find_from (λ (x : own.Macro). text x.name) 1 names.macros word) none.sixth))
+    ∙ (ap (λ o. chain o (constructors_at names word) (destructors_at names word) (events_at names word) (tables_at names word) (Some own.MeansMacro)) none.first
+    ∙ (ap (λ o. chain None o (destructors_at names word) (events_at names word) (tables_at names word) (Some own.MeansMacro)) none.second
+    ∙ (ap (λ o. chain None None o (events_at names word) (tables_at names word) (Some own.MeansMacro)) none.third
+    ∙ (ap (λ o. chain None None None o (tables_at names word) (Some own.MeansMacro)) none.fourth
+    ∙ ap (λ o. chain None None None None o (Some own.MeansMacro)) none.fifth)))))
+    (λ e. ap (λ o. chain (frees_at names word) (constructors_at names word) (destructors_at names word) (events_at names word) (tables_at names word) (option_map (λ f. own.MeansMacro) o))
     (missed (λ (x : own.Macro). text x.name) 1 names.macros m word e))
 
 picked : (b : Bool) (meaning : Meaning) (old new : Option Meaning) (before after : Option own.Meaning)
@@ -210,6 +237,16 @@ adds_event text names d number arity fresh is takes = record {
   means = subst (λ (m : own.Meaning). HasMore text names (with_event names d) d.word m)
       (ap (λ (n : ℕ). own.MeansEvent n d.arity) (sym is) ∙ ap (own.MeansEvent number) (sym takes))
       (more_event text names d fresh);
+}
+
+pub adds_table : (text : Texts) (names : own.Names) (d : Declared) (number arity : ℕ) → own.meaning_of text names d.word ≡ None
+    → number ≡ length names.tables + 1 → arity ≡ d.arity
+    → Adds text names (with_table names d) d.word (own.MeansTable number arity)
+adds_table text names d number arity fresh is takes = record {
+  counted = omega (arith, length-append names.tables (d ∷ []));
+  means = subst (λ (m : own.Meaning). HasMore text names (with_table names d) d.word m)
+      (ap (λ (n : ℕ). own.MeansTable n d.arity) (sym is) ∙ ap (own.MeansTable number) (sym takes))
+      (more_table text names d fresh);
 }
 
 pub adds_macro : (text : Texts) (names : own.Names) (m : own.Macro) → own.meaning_of text names (text m.name) ≡ None

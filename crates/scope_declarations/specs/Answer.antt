@@ -15,6 +15,7 @@ code_of c.Kind = own.Kind
 code_of c.LooseVariable = own.LooseVariable
 code_of c.TooMany = own.TooMany
 code_of c.AmbiguousNew = own.AmbiguousNew
+code_of c.PhaseOrder = own.PhaseOrder
 
 -- the answer is this fault; want of memory says nothing
 abbrev pub Stops : {Y : Type 0} → Stop → own.Answer Y → Type 0

@@ -21,6 +21,7 @@ names_of n = record {
   constructors = n.ctors;
   destructors = n.dtors;
   events = n.events;
+  tables = n.tables;
   macros = map macro_of n.macros.items;
 }
 
@@ -30,6 +31,7 @@ meaning_of (m.Free number) = own.MeansFree number
 meaning_of (m.Constructor number arity is_data) = own.MeansConstructor number arity is_data
 meaning_of (m.Destructor number arity) = own.MeansDestructor number arity
 meaning_of (m.Event number arity) = own.MeansEvent number arity
+meaning_of (m.Table number arity) = own.MeansTable number arity
 meaning_of m.Macro = own.MeansMacro
 
 -- the table tells what each word is declared as

@@ -1,7 +1,6 @@
 //! Declarations other than queries, in order; of a macro only its name is looked at.
 
-ghost use Rattle.std.specs.Prelude.{◌≡◌, ◌+◌, map, min, IfOk, OnOk};
-ghost use Rattle.spec_calculus.specs.Bounds.{most_arguments};
+ghost use Rattle.std.specs.Prelude.{◌≡◌, ◌+◌, ◌≤◌, map, min, IfOk, OnOk};
 ghost use Rattle.spec_protocol_scope.specs.Names as naming;
 ghost use Rattle.spec_protocol_scope.specs.Declarations as rules;
 ghost use Rattle.pi_parser.specs.Files as sketched;
@@ -80,15 +79,14 @@ fn new_symbol(alloc: Global, scope: &Scope, token: usize) -> Result<Word, Stop>
     new_name(alloc, scope, token)
 }
 
-/// The number that the digits spell, or one more than an arity may be, where it is more.
-fn capped_number(digits: &[u8]) -> u32
-    ensures { result ≡ min (naming.decimal digits.now) (most_arguments + 1) }
+/// The number that the digits spell, or one more than this, where it is more.
+pub fn capped_number(digits: &[u8], most: u32) -> u32
+    requires { most ≤ 1000 }
+    ensures { result ≡ min (naming.decimal digits.now) (most + 1) }
 {
     let mut number = 0u32;
     for digit in digits {
-        number = (10 * number + u32::from(digit.saturating_sub(b'0'))).min(
-            MOST_ARGUMENTS as u32 + 1,
-        );
+        number = (10 * number + u32::from(digit.saturating_sub(b'0'))).min(most + 1);
     }
     number
 }
@@ -97,7 +95,7 @@ fn capped_number(digits: &[u8]) -> u32
 fn arity(whole: &Text, token: usize) -> Result<u32, Stop>
     ensures { Gives (λ arity. arity) result (rules.arity (texts_of whole.now) token) }
 {
-    let number = capped_number(text_of(whole, token));
+    let number = capped_number(text_of(whole, token), MOST_ARGUMENTS as u32);
     if number as usize > MOST_ARGUMENTS {
         return Err(Stop::Fault(Code::TooMany, token));
     }
@@ -135,7 +133,7 @@ fn constructor(alloc: Global, scope: &Scope, said: Signature) -> Result<Declared
     })
 }
 
-/// An event.
+/// An event, or a table.
 fn event(alloc: Global, scope: &Scope, name: usize, size: usize) -> Result<Declared, Stop>
     ensures read { Gives declared_of result (rules.event (scope_of scope.now) name size) }
     ensures new { IfOk result (λ found. IsNew (scope_of scope.now) name (declared_of found).word) }
@@ -327,6 +325,28 @@ fn declare_event(
     Ok(())
 }
 
+/// Adds a table.
+fn declare_table(
+    names: &mut Names,
+    alloc: Global,
+    whole: &Text,
+    name: usize,
+    size: usize,
+) -> Result<(), Stop>
+    requires { IsKept (texts_of whole.now) names.old }
+    ensures read { Turns (names_of names.new) result
+        (rules.declare_table (texts_of whole.now) (names_of names.old) name size) }
+    ensures kept { OnOk result (IsKept (texts_of whole.now) names.new) }
+{
+    let scope = Scope {
+        text: *whole,
+        names: &*names,
+    };
+    let found = event(alloc, &scope, name, size)?;
+    names.add_table(alloc, found)?;
+    Ok(())
+}
+
 /// Adds a macro.
 fn declare_macro<'a>(
     names: &mut Names<'a>,
@@ -415,6 +435,9 @@ fn declare<'a>(
         }
         DeclarationSketch::Event { name, arity, .. } => {
             declare_event(names, alloc, whole, *name, *arity)
+        }
+        DeclarationSketch::Table { name, arity, .. } => {
+            declare_table(names, alloc, whole, *name, *arity)
         }
         DeclarationSketch::Query { .. } => Ok(()),
         DeclarationSketch::Definition { name, process, .. } => {

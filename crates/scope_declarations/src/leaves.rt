@@ -59,9 +59,10 @@ fn declared_leaf(alloc: Global, token: usize, meaning: Meaning) -> Result<Term, 
                 Err(Stop::Fault(Code::Arity, token))
             }
         }
-        Meaning::Destructor { .. } | Meaning::Event { .. } | Meaning::Macro => {
-            Err(Stop::Fault(Code::Kind, token))
-        }
+        Meaning::Destructor { .. }
+        | Meaning::Event { .. }
+        | Meaning::Table { .. }
+        | Meaning::Macro => Err(Stop::Fault(Code::Kind, token)),
     }
 }
 
@@ -195,6 +196,18 @@ pub fn event_named(scope: &Scope, token: usize, given: usize) -> Result<u32, Sto
 {
     match look(scope, token) {
         Some(Meaning::Event { number, arity }) => taking(token, number, arity as usize, given),
+        Some(_) => Err(Stop::Fault(Code::Kind, token)),
+        None => Err(Stop::Fault(Code::Unknown, token)),
+    }
+}
+
+/// The table of so many arguments that the token names.
+pub fn table_named(scope: &Scope, token: usize, given: usize) -> Result<u32, Stop>
+    ensures { Gives (λ n. n) result (rules.table_named token given
+        (naming.look (scope_of scope.now) token)) }
+{
+    match look(scope, token) {
+        Some(Meaning::Table { number, arity }) => taking(token, number, arity as usize, given),
         Some(_) => Err(Stop::Fault(Code::Kind, token)),
         None => Err(Stop::Fault(Code::Unknown, token)),
     }

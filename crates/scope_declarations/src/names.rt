@@ -5,7 +5,7 @@ ghost use Rattle.std.specs.List.{list_all};
 ghost use Rattle.std.specs.Char.{is_ascii_digit};
 ghost use Rattle.spec_calculus.specs.Bounds.{most_names};
 ghost use Rattle.spec_protocol_scope.specs.Names as rules;
-ghost use Rattle.spec_protocol_scope.specs.Declarations.{with_free, with_constructor, with_destructor, with_event};
+ghost use Rattle.spec_protocol_scope.specs.Declarations.{with_free, with_constructor, with_destructor, with_event, with_table};
 ghost use Rattle.spec_protocol_scope.specs.Scope as scoped;
 ghost use Rattle.pi_tree.specs.Names.{declared_of};
 ghost use Rattle.pi_tree.specs.Processes.{process_of};
@@ -36,6 +36,7 @@ pub struct Names<'a> {
     pub ctors: Declarations,
     pub dtors: Dtors,
     pub events: Declarations,
+    pub tables: Declarations,
     pub macros: Vec<Macro<'a>>,
 
     /// What each of them is, found by the hash of its word.
@@ -49,6 +50,7 @@ impl Drop for Names<'_> {
             ctors: _,
             dtors: _,
             events: _,
+            tables: _,
             macros: _,
             meanings: _,
         } = self;
@@ -72,6 +74,9 @@ impl<'a> Names<'a> {
                 items: Vec::new(alloc),
             },
             events: Declarations {
+                items: Vec::new(alloc),
+            },
+            tables: Declarations {
                 items: Vec::new(alloc),
             },
             macros: Vec::new(alloc),
@@ -141,6 +146,22 @@ impl<'a> Names<'a> {
         Ok(())
     }
 
+    /// Adds a table.
+    pub fn add_table(&mut self, alloc: Global, found: Declared) -> Result<(), AllocError>
+        requires { rules.count_of (names_of self.old) < most_names }
+        ensures names { OnOk result
+            (names_of self.new ≡ with_table (names_of self.old) (declared_of found)) }
+        ensures kept { OnOk result (StaysKept self.old (declared_of found).word self.new) }
+    {
+        let meaning = Meaning::Table {
+            number: number_behind(&self.tables),
+            arity: found.arity,
+        };
+        enter(&mut self.meanings, alloc, &found.word.items, meaning)?;
+        append(&mut self.tables, found)?;
+        Ok(())
+    }
+
     /// The protocol of these names with this main process and these queries.
     pub fn into_protocol(self, main: Box<Process>, queries: Queries) -> Protocol
         ensures { protocol_of result ≡
@@ -151,6 +172,7 @@ impl<'a> Names<'a> {
             ctors,
             dtors,
             events,
+            tables,
             macros: _,
             meanings: _,
         } = self;
@@ -159,6 +181,7 @@ impl<'a> Names<'a> {
             ctors,
             dtors,
             events,
+            tables,
             queries,
             main: Box::into_inner(main),
         }
@@ -228,6 +251,10 @@ pub enum Meaning {
         number: u32,
         arity: u32,
     },
+    Table {
+        number: u32,
+        arity: u32,
+    },
     Macro,
 }
 
@@ -258,6 +285,7 @@ pub fn count_of(names: &Names) -> usize
         + names.ctors.items.len()
         + names.dtors.items.len()
         + names.events.items.len()
+        + names.tables.items.len()
         + names.macros.len()
 }
 

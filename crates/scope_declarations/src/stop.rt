@@ -22,6 +22,8 @@ pub enum Code {
     TooMany,
     /// A query for the name of one of several restrictions.
     AmbiguousNew,
+    /// A phase that is not later than the one in force, or in a query one past the greatest.
+    PhaseOrder,
 }
 
 /// Why no protocol was found.

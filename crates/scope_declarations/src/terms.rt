@@ -1,4 +1,4 @@
-//! Terms and events, within their limits.
+//! Terms, events and entries, within their limits.
 
 ghost use Rattle.std.specs.Prelude.{◌≡◌, ◌+◌, ◌≤◌, IfOk, OnOk};
 ghost use Rattle.spec_calculus.specs.Bounds.{most_written_symbols};
@@ -15,7 +15,7 @@ ghost use Rattle.scope_declarations.specs.Scope.{scope_of};
 ghost use Rattle.scope_declarations.specs.Terms.{setting_of, FindsSetting, capped};
 ghost use Rattle.scope_declarations.specs.Variables.{FindsVariables};
 
-use crate::leaves::{Setting, constructor, event_named, leaf};
+use crate::leaves::{Setting, constructor, event_named, leaf, table_named};
 use crate::place::Place;
 use crate::scope::Scope;
 use crate::stop::{Code, Stop};
@@ -184,4 +184,21 @@ pub fn event(
     let event = event_named(scope, sketch.first, count_of(&sketch.arguments))?;
     let (args, symbols) = terms(&sketch.arguments, alloc, scope, setting, variables)?;
     Ok((Atom { event, args }, plus(1, symbols)))
+}
+
+/// An entry of a process, at this place: its table, and its terms.
+pub fn entry(sketch: &AtomSketch, alloc: Global, place: &Place) -> Result<(u32, Terms), Stop>
+    ensures { Gives (λ x. x) result (rules.entry (scope_of place.now.scope)
+        (bound_of place.now.bound.now) (sketched.atom_of sketch.now)) }
+{
+    let table = table_named(&place.scope, sketch.first, count_of(&sketch.arguments))?;
+    let mut variables = Variables::new(alloc);
+    let (arguments, _) = terms(
+        &sketch.arguments,
+        alloc,
+        &place.scope,
+        &Setting::Process(place.bound),
+        &mut variables,
+    )?;
+    Ok((table, arguments))
 }

@@ -110,7 +110,7 @@ word_goes_on : (b : ℕ) → is_in_word b ≡ true → goes_on b ≡ true
 word_goes_on b e = or_true (is_in_word b || (b == 40)) (b == 64) (or_true (is_in_word b) (b == 40) e)
 
 -- no word begins with what no word goes on with
-word_begins : (w x : List ℕ) (c : ℕ) (y : List ℕ) → IsWord w → goes_on c ≡ false → w ++ x ≡ c ∷ y → ⊥
+pub word_begins : (w x : List ℕ) (c : ℕ) (y : List ℕ) → IsWord w → goes_on c ≡ false → w ++ x ≡ c ∷ y → ⊥
 word_begins [] x c y word stops e = no_word word
 word_begins (b ∷ w) x c y word stops e =
     let first = first_same b c (w ++ x) y e in
@@ -150,9 +150,9 @@ pub record TreesApart (t u : Loose) (k l : List ℕ) : Type 0 where
   pub tree : t ≡ u
   pub rest : k ≡ l
 
-record RowsApart (ts us : LooseRow) (k l : List ℕ) : Type 0 where
-  rows : ts ≡ us
-  rest : k ≡ l
+pub record RowsApart (ts us : LooseRow) (k l : List ℕ) : Type 0 where
+  pub rows : ts ≡ us
+  pub rest : k ≡ l
 
 leaves_apart : (v w k l : List ℕ) → IsWord v → IsWord w → Stops goes_on k → Stops goes_on l → v ++ k ≡ w ++ l → TreesApart (Leaf v) (Leaf w) k l
 leaves_apart v w k l is_v is_w stops_k stops_l e =
@@ -188,3 +188,7 @@ mutual
       let first = whole_apart t u (behind ts (c ∷ k)) (behind us (c ∷ l)) are_t.0 are_u.0 (ends_within t ts c k close.stops) (ends_within u us c l close.stops) (later_same 44 44 (onto t (behind ts (c ∷ k))) (onto u (behind us (c ∷ l))) e) in
       let later = behind_apart ts us c k l close are_t.1 are_u.1 first.rest in
       record { rows = ap (λ v. more v ts) first.tree ∙ ap (more u) later.rows; rest = later.rest }
+
+-- rows before a `)` are told apart
+pub closed_rows_apart : (ts us : LooseRow) (k l : List ℕ) → AreLoose ts → AreLoose us → row ts (41 ∷ k) ≡ row us (41 ∷ l) → RowsApart ts us k l
+closed_rows_apart ts us k l are_t are_u e = row_apart ts us 41 k l (closes Tupled) are_t are_u e

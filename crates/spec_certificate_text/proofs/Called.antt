@@ -8,10 +8,10 @@ use Rattle.spec_calculus.specs.Points.{numbered, name_arguments}
 use Rattle.spec_well_formed.specs.Words as declared
 use Rattle.spec_terms.specs.Term.{Free, Point}
 use Rattle.spec_certificate_text.specs.Words.{declared_word, word_of_process, word_at}
-use Rattle.spec_certificate_text.specs.OfProtocol.{IsDeclared, IsConstructor, IsEvent, IsRestriction, HasNames}
-use Rattle.spec_certificate_text.proofs.Names.{word_is, one_name, constructor_named, free_named, event_named}
+use Rattle.spec_certificate_text.specs.OfProtocol.{IsDeclared, IsConstructor, IsDeclaredOver, IsEvent, IsTable, IsRestriction, HasNames}
+use Rattle.spec_certificate_text.proofs.Names.{word_is, one_name, constructor_named, free_named, event_named, table_named}
 use Rattle.spec_certificate_text.specs.Names as called
-use Rattle.spec_certificate_text.specs.Names.{Found, find_from, Named, constructor_symbol, symbol_called, is_restriction_of, if_restriction, name_called, CalledEvent, event_called}
+use Rattle.spec_certificate_text.specs.Names.{Found, find_from, constructor_symbol, symbol_called, if_restriction, name_called, CalledEvent, called_in, event_called, table_called}
 use Rattle.spec_certificate_text.proofs.Named.{found_at, numbered_is}
 
 -- where nothing was found no declaration has the word
@@ -94,36 +94,62 @@ point_called P point n is =
 abbrev event_of : Found → CalledEvent
 event_of f = record { number = f.number; arity = f.declared.arity }
 
--- the word of an event names that event
-pub event_word_called : (P : Protocol) → HasNames P → (e n : ℕ) → IsEvent P e n → event_called P (declared_word P.events e) ≡ Some record { number = e; arity = n }
-event_word_called P names e n is = by (find_from 1 P.events (declared_word P.events e)) refl
+-- no two of these declarations have one word
+abbrev pub HasOwnWords : List Declared → Type 0
+HasOwnWords ds = (g e m n : ℕ) → IsDeclaredOver ds g m → IsDeclaredOver ds e n → declared_word ds g ≡ declared_word ds e → g ≡ e
+
+-- the word of such a declaration names it
+pub declared_word_called : (ds : List Declared) → HasOwnWords ds → (e n : ℕ) → IsDeclaredOver ds e n → called_in ds (declared_word ds e) ≡ Some record { number = e; arity = n }
+declared_word_called ds own e n is = by (find_from 1 ds (declared_word ds e)) refl
   where
-    by : (found : Option Found) → find_from 1 P.events (declared_word P.events e) ≡ found → event_called P (declared_word P.events e) ≡ Some record { number = e; arity = n }
-    by None none = absurd (none_numbered P.events (declared_word P.events e) e is.declared none is.there (sym (word_is P.events e is.declared is.there)))
+    by : (found : Option Found) → find_from 1 ds (declared_word ds e) ≡ found → called_in ds (declared_word ds e) ≡ Some record { number = e; arity = n }
+    by None none = absurd (none_numbered ds (declared_word ds e) e is.declared none is.there (sym (word_is ds e is.declared is.there)))
     by (Some f) some =
-        let here = found_there P.events (declared_word P.events e) f some in
-        let other : IsEvent P f.number f.declared.arity = record { declared = f.declared; there = here.there; arity = refl } in
-        let one : declared.Event f.number ≡ declared.Event e = one_name P names (declared.Event f.number) (declared.Event e) (declared_word P.events f.number) (declared_word P.events e) (event_named P f.number f.declared.arity other) (event_named P e n is) here.has_word in
-        let same : f.number ≡ e = cc in
-        let both : Some f.declared ≡ Some is.declared = sym here.there ∙ (ap (numbered P.events) same ∙ is.there) in
+        let here = found_there ds (declared_word ds e) f some in
+        let other : IsDeclaredOver ds f.number f.declared.arity = record { declared = f.declared; there = here.there; arity = refl } in
+        let same : f.number ≡ e = own f.number e f.declared.arity n other is here.has_word in
+        let both : Some f.declared ≡ Some is.declared = sym here.there ∙ (ap (numbered ds) same ∙ is.there) in
         let one_declared : f.declared ≡ is.declared = cc in
         ap (option_map event_of) some
         ∙ (ap (λ d. Some record { number = f.number; arity = d.arity }) one_declared
         ∙ (ap (λ m. Some record { number = m; arity = is.declared.arity }) same
         ∙ ap (λ m. Some record { number = e; arity = m }) is.arity))
 
--- what a word names as an event has that word
-pub record IsCalled (P : Protocol) (word : List ℕ) (called : CalledEvent) : Type 0 where
-  pub has_word : declared_word P.events called.number ≡ word
-  pub is_of : IsEvent P called.number called.arity
+pub events_own_words : (P : Protocol) → HasNames P → HasOwnWords P.events
+events_own_words P names g e m n is_g is_e same =
+    let one : declared.Event g ≡ declared.Event e = one_name P names (declared.Event g) (declared.Event e) (declared_word P.events g) (declared_word P.events e) (event_named P g m is_g) (event_named P e n is_e) same in
+    cc
 
-pub event_called_is : (P : Protocol) (word : List ℕ) (called : CalledEvent) → event_called P word ≡ Some called → IsCalled P word called
-event_called_is P word called e = by (find_from 1 P.events word) refl e
+pub tables_own_words : (P : Protocol) → HasNames P → HasOwnWords P.tables
+tables_own_words P names g e m n is_g is_e same =
+    let one : declared.Table g ≡ declared.Table e = one_name P names (declared.Table g) (declared.Table e) (declared_word P.tables g) (declared_word P.tables e) (table_named P g m is_g) (table_named P e n is_e) same in
+    cc
+
+-- the word of an event names that event, and that of a table the table
+pub event_word_called : (P : Protocol) → HasNames P → (e n : ℕ) → IsEvent P e n → event_called P (declared_word P.events e) ≡ Some record { number = e; arity = n }
+event_word_called P names e n is = declared_word_called P.events (events_own_words P names) e n is
+
+pub table_word_called : (P : Protocol) → HasNames P → (t n : ℕ) → IsTable P t n → table_called P (declared_word P.tables t) ≡ Some record { number = t; arity = n }
+table_word_called P names t n is = declared_word_called P.tables (tables_own_words P names) t n is
+
+-- what a word names among declarations has that word
+pub record IsCalledIn (ds : List Declared) (word : List ℕ) (called : CalledEvent) : Type 0 where
+  pub has_word : declared_word ds called.number ≡ word
+  pub is_of : IsDeclaredOver ds called.number called.arity
+
+pub called_in_is : (ds : List Declared) (word : List ℕ) (called : CalledEvent) → called_in ds word ≡ Some called → IsCalledIn ds word called
+called_in_is ds word called e = by (find_from 1 ds word) refl e
   where
-    by : (found : Option Found) → find_from 1 P.events word ≡ found → option_map event_of found ≡ Some called → IsCalled P word called
+    by : (found : Option Found) → find_from 1 ds word ≡ found → option_map event_of found ≡ Some called → IsCalledIn ds word called
     by None is none = absurd (cc)
     by (Some f) is some =
-        let here = found_there P.events word f is in
+        let here = found_there ds word f is in
         let same : event_of f ≡ called = cc in
-        let told : IsCalled P word (event_of f) = record { has_word = here.has_word; is_of = record { declared = f.declared; there = here.there; arity = refl } } in
-        subst (IsCalled P word) same told
+        let told : IsCalledIn ds word (event_of f) = record { has_word = here.has_word; is_of = record { declared = f.declared; there = here.there; arity = refl } } in
+        subst (IsCalledIn ds word) same told
+
+abbrev pub IsCalled : Protocol → List ℕ → CalledEvent → Type 0
+IsCalled P word called = IsCalledIn P.events word called
+
+pub event_called_is : (P : Protocol) (word : List ℕ) (called : CalledEvent) → event_called P word ≡ Some called → IsCalled P word called
+event_called_is P word called e = called_in_is P.events word called e

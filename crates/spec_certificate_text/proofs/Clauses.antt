@@ -5,99 +5,142 @@ use Rattle.std.specs.Char.{is_ascii_digit}
 use Rattle.std.specs.Fmt.{decimal}
 use Rattle.std.specs.List.{AllByRecursion}
 use Rattle.std.specs.Str.{bytes_eq}
-use Rattle.spec_trees.specs.Tree.{Leaf, Node, trees}
+use Rattle.spec_trees.specs.Tree.{Leaf, Node, none, more, trees}
 use Rattle.std.proofs.lemmas.Bool.Decides.{nat_tests}
 use Rattle.spec_trees.proofs.Rows.{trees-injective}
-use Rattle.spec_calculus.specs.Syntax.{Protocol}
-use Rattle.spec_well_formed.specs.Words as declared
+use Rattle.spec_calculus.specs.Syntax.{Declared, Protocol}
 use Rattle.spec_terms.specs.Term.{Term}
 use Rattle.spec_clauses.specs.Fact.{Fact, Att, Mess, Tab, Ev, Mev, Bad, Clause}
 use Rattle.spec_certificates.specs.Certificate.{Certificate}
-use Rattle.spec_certificate_text.specs.Loose.{Applied, Tupled, Made, Attackers, Loose}
-use Rattle.spec_certificate_text.specs.Words.{event_word}
-use Rattle.spec_certificate_text.specs.Written.{written, written_row, written_event, written_fact}
-use Rattle.spec_certificate_text.specs.Text.{term_text, fact_text, later_hypotheses, hypotheses_text, clause_text, clause_lines, numbers_text, row_lines, certificate_text}
-use Rattle.spec_certificate_text.specs.Spelled.{IsLoose, Stops, goes_on, EndsBehind}
-use Rattle.spec_certificate_text.specs.OfProtocol.{IsEvent, IsShort, IsTermOf, AreTermsOf, IsFactOf, IsClauseOf, IsCertificateOf, HasNames}
+use Rattle.spec_protocol_tokens.specs.Bytes.{is_in_word}
+use Rattle.spec_certificate_text.specs.Loose.{Loose, LooseRow, row}
+use Rattle.spec_certificate_text.specs.Words.{declared_word, event_word, table_word}
+use Rattle.spec_certificate_text.specs.Written.{written, written_row, written_call, written_event, written_entry, LooseFact, written_fact}
+use Rattle.spec_certificate_text.specs.Text.{term_text, phase_text, fact_onto, fact_text, later_hypotheses, hypotheses_text, clause_text, clause_lines, numbers_text, row_lines, certificate_text}
+use Rattle.spec_certificate_text.specs.Spelled.{IsWord, AreLoose, Stops, goes_on, EndsBehind}
+use Rattle.spec_certificate_text.specs.OfProtocol.{IsDeclaredOver, IsShort, IsTermOf, AreTermsOf, IsFactOf, IsClauseOf, IsCertificateOf, HasNames}
 use Rattle.spec_certificate_text.proofs.Runs.{first_same, later_same, run_apart}
-use Rattle.spec_certificate_text.proofs.Apart.{tree_begins, whole_apart}
-use Rattle.spec_certificate_text.proofs.Names.{event_word_is_word, decimal_digits, one_decimal, one_name, event_named}
+use Rattle.spec_certificate_text.proofs.Apart.{word_begins, whole_apart, closed_rows_apart}
+use Rattle.spec_certificate_text.proofs.Names.{event_word_is_word, table_word_is_word, decimal_digits, one_decimal}
+use Rattle.spec_certificate_text.proofs.Called.{HasOwnWords, events_own_words, tables_own_words}
 use Rattle.spec_certificate_text.proofs.Terms.{applied_is_loose, written_is_loose, written_are_loose, applied_apart, written_apart, rows_apart}
-
--- Facts.
-
-fact_is_loose : (P : Protocol) → HasNames P → (f : Fact Term) → IsFactOf P f → IsLoose (written_fact P f)
-fact_is_loose P names (Att zero t) is = (record { begins = refl; goes_on = refl }, (written_is_loose P names t is, tt))
-fact_is_loose P names (Mess zero t u) is = (record { begins = refl; goes_on = refl }, (written_is_loose P names t is.0, (written_is_loose P names u is.1, tt)))
-fact_is_loose P names (Att (suc k) t) is = absurd is
-fact_is_loose P names (Mess (suc k) t u) is = absurd is
-fact_is_loose P names (Tab n ts) is = absurd is
-fact_is_loose P names (Ev e ts) is =
-    (record { begins = refl; goes_on = refl }, (applied_is_loose (event_word P e) (written_row P (trees ts)) (event_word_is_word P e (length ts) names is.0) (written_are_loose P names (trees ts) is.1), tt))
-fact_is_loose P names (Mev e ts) is =
-    (record { begins = refl; goes_on = refl }, (applied_is_loose (event_word P e) (written_row P (trees ts)) (event_word_is_word P e (length ts) names is.0) (written_are_loose P names (trees ts) is.1), tt))
-fact_is_loose P names (Bad ts) is = (record { begins = refl; goes_on = refl }, written_are_loose P names (trees ts) is)
-
-fact_ends : (P : Protocol) (f : Fact Term) (k : List ℕ) → EndsBehind (written_fact P f) k
-fact_ends P (Att phase t) k = tt
-fact_ends P (Mess phase t u) k = tt
-fact_ends P (Tab n ts) k = tt
-fact_ends P (Ev e ts) k = tt
-fact_ends P (Mev e ts) k = tt
-fact_ends P (Bad ts) k = tt
-
-record EventsApart (e g : ℕ) (ts us : List Term) : Type 0 where
-  event : e ≡ g
-  arguments : ts ≡ us
-
-events_apart : (P : Protocol) → HasNames P → (e g : ℕ) (ts us : List Term) → IsEvent P e (length ts) → IsEvent P g (length us) → AreTermsOf P (trees ts) → AreTermsOf P (trees us) → written_event P e ts ≡ written_event P g us → EventsApart e g ts us
-events_apart P names e g ts us is_e is_g are_t are_u same =
-    let parts = applied_apart (event_word P e) (event_word P g) (written_row P (trees ts)) (written_row P (trees us)) same in
-    let named : declared.Event e ≡ declared.Event g = one_name P names (declared.Event e) (declared.Event g) (event_word P e) (event_word P g) (event_named P e (length ts) is_e) (event_named P g (length us) is_g) parts.word in
-    record { event = cc; arguments = trees-injective ts us (rows_apart P names (trees ts) (trees us) are_t are_u parts.arguments) }
-
--- whether it is that word over arguments
-is_called : List ℕ → Loose → Bool
-is_called word (Leaf w) = false
-is_called word (Node (Applied w) ts) = bytes_eq w word
-is_called word (Node Tupled ts) = false
-is_called word (Node (Made w d) ts) = false
-is_called word (Node Attackers ts) = false
-
-written_facts_apart : (P : Protocol) → HasNames P → (f g : Fact Term) → IsFactOf P f → IsFactOf P g → written_fact P f ≡ written_fact P g → f ≡ g
-unfolding is_called
-written_facts_apart P names (Att zero t) (Att zero u) is_f is_g e = let same : written P t ≡ written P u = cc in ap (Att 0) (written_apart P names t u is_f is_g same)
-written_facts_apart P names (Mess zero t u) (Mess zero v w) is_f is_g e =
-    let channels : written P t ≡ written P v = cc in
-    let messages : written P u ≡ written P w = cc in
-    ap (λ x. Mess 0 x u) (written_apart P names t v is_f.0 is_g.0 channels) ∙ ap (Mess 0 v) (written_apart P names u w is_f.1 is_g.1 messages)
-written_facts_apart P names (Ev n ts) (Ev m us) is_f is_g e =
-    let same : written_event P n ts ≡ written_event P m us = cc in
-    let parts = events_apart P names n m ts us is_f.0 is_g.0 is_f.1 is_g.1 same in
-    ap (λ k. Ev k ts) parts.event ∙ ap (Ev m) parts.arguments
-written_facts_apart P names (Mev n ts) (Mev m us) is_f is_g e =
-    let same : written_event P n ts ≡ written_event P m us = cc in
-    let parts = events_apart P names n m ts us is_f.0 is_g.0 is_f.1 is_g.1 same in
-    ap (λ k. Mev k ts) parts.event ∙ ap (Mev m) parts.arguments
-written_facts_apart P names (Bad ts) (Bad us) is_f is_g e =
-    let same : written_row P (trees ts) ≡ written_row P (trees us) = cc in
-    ap Bad (trees-injective ts us (rows_apart P names (trees ts) (trees us) is_f is_g same))
-written_facts_apart P names (Att (suc k) t) g is_f is_g e = absurd is_f
-written_facts_apart P names (Mess (suc k) t u) g is_f is_g e = absurd is_f
-written_facts_apart P names (Tab n ts) g is_f is_g e = absurd is_f
-written_facts_apart P names f (Att (suc k) t) is_f is_g e = absurd is_g
-written_facts_apart P names f (Mess (suc k) t u) is_f is_g e = absurd is_g
-written_facts_apart P names f (Tab n ts) is_f is_g e = absurd is_g
-written_facts_apart P names (Att zero t) g is_f is_g e = let differ : true ≡ false = ap (is_called (codes "att")) e in absurd (cc)
-written_facts_apart P names (Mess zero t u) g is_f is_g e = let differ : true ≡ false = ap (is_called (codes "mess")) e in absurd (cc)
-written_facts_apart P names (Ev n ts) g is_f is_g e = let differ : true ≡ false = ap (is_called (codes "ev")) e in absurd (cc)
-written_facts_apart P names (Mev n ts) g is_f is_g e = let differ : true ≡ false = ap (is_called (codes "mev")) e in absurd (cc)
-written_facts_apart P names (Bad ts) g is_f is_g e = let differ : true ≡ false = ap (is_called (codes "bad")) e in absurd (cc)
 
 -- a text is that of one thing, and one rest
 pub record Same {X : Type 0} (x y : X) (k l : List ℕ) : Type 0 where
   pub thing : x ≡ y
   pub rest : k ≡ l
+
+differ : (a b : ℕ) (x y : List ℕ) → (a == b) ≡ false → a ∷ x ≡ b ∷ y → ⊥
+differ a b x y tests e = let same : a ≡ b = first_same a b x y e in absurd (grind (arith, nat_tests))
+
+-- Facts.
+
+-- a predicate is a word, its phase is within the limit of digits, and so are its arguments loose trees
+record IsLooseFact (f : LooseFact) : Type 0 where
+  word : IsWord f.predicate
+  phase : IsShort f.phase
+  arguments : AreLoose f.arguments
+
+fact_is_loose : (P : Protocol) → HasNames P → (f : Fact Term) → IsFactOf P f → IsLooseFact (written_fact P f)
+fact_is_loose P names (Att k t) is = record { word = record { begins = refl; goes_on = refl }; phase = is.0.1; arguments = (written_is_loose P names t is.1, tt) }
+fact_is_loose P names (Mess k t u) is =
+    record { word = record { begins = refl; goes_on = refl }; phase = is.0.1; arguments = (written_is_loose P names t is.1, (written_is_loose P names u is.2, tt)) }
+fact_is_loose P names (Tab n ts) is = record {
+  word = record { begins = refl; goes_on = refl };
+  phase = omega arith;
+  arguments = (applied_is_loose (table_word P n) (written_row P (trees ts)) (table_word_is_word P n (length ts) names is.0) (written_are_loose P names (trees ts) is.1), tt);
+}
+fact_is_loose P names (Ev e ts) is = record {
+  word = record { begins = refl; goes_on = refl };
+  phase = omega arith;
+  arguments = (applied_is_loose (event_word P e) (written_row P (trees ts)) (event_word_is_word P e (length ts) names is.0) (written_are_loose P names (trees ts) is.1), tt);
+}
+fact_is_loose P names (Mev e ts) is = record {
+  word = record { begins = refl; goes_on = refl };
+  phase = omega arith;
+  arguments = (applied_is_loose (event_word P e) (written_row P (trees ts)) (event_word_is_word P e (length ts) names is.0) (written_are_loose P names (trees ts) is.1), tt);
+}
+fact_is_loose P names (Bad ts) is = record { word = record { begins = refl; goes_on = refl }; phase = omega arith; arguments = written_are_loose P names (trees ts) is }
+
+-- a word ends before a phase and its parenthesis
+phase_stops : (k : ℕ) (x : List ℕ) → Stops is_in_word (phase_text k (40 ∷ x))
+phase_stops zero x = refl
+phase_stops (suc k) x = refl
+
+pub phases_apart : (j k : ℕ) (x y : List ℕ) → IsShort j → IsShort k → phase_text j (40 ∷ x) ≡ phase_text k (40 ∷ y) → Same j k x y
+phases_apart zero zero x y short_j short_k e = record { thing = refl; rest = later_same 40 40 x y e }
+phases_apart zero (suc k) x y short_j short_k e = absurd (differ 40 64 x (decimal (suc k) ++ (40 ∷ y)) refl e)
+phases_apart (suc j) zero x y short_j short_k e = absurd (differ 64 40 (decimal (suc j) ++ (40 ∷ x)) y refl e)
+phases_apart (suc j) (suc k) x y short_j short_k e =
+    let digits = run_apart is_ascii_digit (decimal (suc j)) (decimal (suc k)) (40 ∷ x) (40 ∷ y) (decimal_digits (suc j) short_j) (decimal_digits (suc k) short_k) refl refl
+    (later_same 64 64 (decimal (suc j) ++ (40 ∷ x)) (decimal (suc k) ++ (40 ∷ y)) e) in
+    record { thing = one_decimal (suc j) (suc k) short_j short_k digits.run; rest = later_same 40 40 x y digits.rest }
+
+loose_apart : (f g : LooseFact) (k l : List ℕ) → IsLooseFact f → IsLooseFact g → fact_onto f k ≡ fact_onto g l → Same f g k l
+loose_apart f g k l is_f is_g e =
+    let x = row f.arguments (41 ∷ k) in
+    let y = row g.arguments (41 ∷ l) in
+    let words = run_apart is_in_word f.predicate g.predicate (phase_text f.phase (40 ∷ x)) (phase_text g.phase (40 ∷ y)) is_f.word.goes_on is_g.word.goes_on (phase_stops f.phase x) (phase_stops g.phase y) e in
+    let phases = phases_apart f.phase g.phase x y is_f.phase is_g.phase words.rest in
+    let rows = closed_rows_apart f.arguments g.arguments k l is_f.arguments is_g.arguments phases.rest in
+    record { thing = λ i. record { predicate = words.run i; phase = phases.thing i; arguments = rows.rows i }; rest = rows.rest }
+
+record CallsApart (e g : ℕ) (ts us : List Term) : Type 0 where
+  number : e ≡ g
+  arguments : ts ≡ us
+
+calls_apart : (P : Protocol) → HasNames P → (ds : List Declared) → HasOwnWords ds → (e g : ℕ) (ts us : List Term) → IsDeclaredOver ds e (length ts) → IsDeclaredOver ds g (length us) → AreTermsOf P (trees ts) → AreTermsOf P (trees us)
+    → written_call P ds e ts ≡ written_call P ds g us → CallsApart e g ts us
+calls_apart P names ds own e g ts us is_e is_g are_t are_u same =
+    let parts = applied_apart (declared_word ds e) (declared_word ds g) (written_row P (trees ts)) (written_row P (trees us)) same in
+    record { number = own e g (length ts) (length us) is_e is_g parts.word; arguments = trees-injective ts us (rows_apart P names (trees ts) (trees us) are_t are_u parts.arguments) }
+
+-- whether it has this predicate
+is_called : List ℕ → LooseFact → Bool
+is_called word f = bytes_eq f.predicate word
+
+phase_of : LooseFact → ℕ
+phase_of f = f.phase
+
+arguments_of : LooseFact → LooseRow
+arguments_of f = f.arguments
+
+written_facts_apart : (P : Protocol) → HasNames P → (f g : Fact Term) → IsFactOf P f → IsFactOf P g → written_fact P f ≡ written_fact P g → f ≡ g
+unfolding is_called phase_of arguments_of
+written_facts_apart P names (Att j t) (Att k u) is_f is_g e =
+    let phases : j ≡ k = ap phase_of e in
+    let rows : more (written P t) none ≡ more (written P u) none = ap arguments_of e in
+    let same : written P t ≡ written P u = cc in
+    ap (λ n. Att n t) phases ∙ ap (Att k) (written_apart P names t u is_f.1 is_g.1 same)
+written_facts_apart P names (Mess j t u) (Mess k v w) is_f is_g e =
+    let phases : j ≡ k = ap phase_of e in
+    let rows : more (written P t) (more (written P u) none) ≡ more (written P v) (more (written P w) none) = ap arguments_of e in
+    let channels : written P t ≡ written P v = cc in
+    let messages : written P u ≡ written P w = cc in
+    ap (λ n. Mess n t u) phases ∙ (ap (λ x. Mess k x u) (written_apart P names t v is_f.1 is_g.1 channels) ∙ ap (Mess k v) (written_apart P names u w is_f.2 is_g.2 messages))
+written_facts_apart P names (Tab n ts) (Tab m us) is_f is_g e =
+    let rows : more (written_entry P n ts) none ≡ more (written_entry P m us) none = ap arguments_of e in
+    let same : written_entry P n ts ≡ written_entry P m us = cc in
+    let parts = calls_apart P names P.tables (tables_own_words P names) n m ts us is_f.0 is_g.0 is_f.1 is_g.1 same in
+    ap (λ k. Tab k ts) parts.number ∙ ap (Tab m) parts.arguments
+written_facts_apart P names (Ev n ts) (Ev m us) is_f is_g e =
+    let rows : more (written_event P n ts) none ≡ more (written_event P m us) none = ap arguments_of e in
+    let same : written_event P n ts ≡ written_event P m us = cc in
+    let parts = calls_apart P names P.events (events_own_words P names) n m ts us is_f.0 is_g.0 is_f.1 is_g.1 same in
+    ap (λ k. Ev k ts) parts.number ∙ ap (Ev m) parts.arguments
+written_facts_apart P names (Mev n ts) (Mev m us) is_f is_g e =
+    let rows : more (written_event P n ts) none ≡ more (written_event P m us) none = ap arguments_of e in
+    let same : written_event P n ts ≡ written_event P m us = cc in
+    let parts = calls_apart P names P.events (events_own_words P names) n m ts us is_f.0 is_g.0 is_f.1 is_g.1 same in
+    ap (λ k. Mev k ts) parts.number ∙ ap (Mev m) parts.arguments
+written_facts_apart P names (Bad ts) (Bad us) is_f is_g e =
+    ap Bad (trees-injective ts us (rows_apart P names (trees ts) (trees us) is_f is_g (ap arguments_of e)))
+written_facts_apart P names (Att k t) g is_f is_g e = let differ : true ≡ false = ap (is_called (codes "att")) e in absurd (cc)
+written_facts_apart P names (Mess k t u) g is_f is_g e = let differ : true ≡ false = ap (is_called (codes "mess")) e in absurd (cc)
+written_facts_apart P names (Tab n ts) g is_f is_g e = let differ : true ≡ false = ap (is_called (codes "tab")) e in absurd (cc)
+written_facts_apart P names (Ev n ts) g is_f is_g e = let differ : true ≡ false = ap (is_called (codes "ev")) e in absurd (cc)
+written_facts_apart P names (Mev n ts) g is_f is_g e = let differ : true ≡ false = ap (is_called (codes "mev")) e in absurd (cc)
+written_facts_apart P names (Bad ts) g is_f is_g e = let differ : true ≡ false = ap (is_called (codes "bad")) e in absurd (cc)
 
 -- two terms with rests behind which they end are one term and one rest, where the texts are one
 pub term_apart : (P : Protocol) → HasNames P → (t u : Term) (k l : List ℕ) → IsTermOf P t → IsTermOf P u → Stops goes_on k → Stops goes_on l → term_text P t k ≡ term_text P u l → Same t u k l
@@ -112,13 +155,10 @@ term_apart P names t u k l is_t is_u stops_k stops_l e =
 -- and two facts, whatever the rests are
 pub fact_apart : (P : Protocol) → HasNames P → (f g : Fact Term) (k l : List ℕ) → IsFactOf P f → IsFactOf P g → fact_text P f k ≡ fact_text P g l → Same f g k l
 fact_apart P names f g k l is_f is_g e =
-    let whole = whole_apart (written_fact P f) (written_fact P g) k l (fact_is_loose P names f is_f) (fact_is_loose P names g is_g) (fact_ends P f k) (fact_ends P g l) e in
-    record { thing = written_facts_apart P names f g is_f is_g whole.tree; rest = whole.rest }
+    let whole = loose_apart (written_fact P f) (written_fact P g) k l (fact_is_loose P names f is_f) (fact_is_loose P names g is_g) e in
+    record { thing = written_facts_apart P names f g is_f is_g whole.thing; rest = whole.rest }
 
 -- Clauses.
-
-differ : (a b : ℕ) (x y : List ℕ) → (a == b) ≡ false → a ∷ x ≡ b ∷ y → ⊥
-differ a b x y tests e = let same : a ≡ b = first_same a b x y e in absurd (grind (arith, nat_tests))
 
 later_apart : (P : Protocol) → HasNames P → (hs gs : List (Fact Term)) (k l : List ℕ) → AllByRecursion (IsFactOf P) hs → AllByRecursion (IsFactOf P) gs → later_hypotheses P hs k ≡ later_hypotheses P gs l → Same hs gs k l
 later_apart P names [] [] k l are_h are_g e = record { thing = refl; rest = later_same 32 32 k l e }
@@ -132,7 +172,9 @@ later_apart P names (h ∷ hs) (g ∷ gs) k l are_h are_g e =
     record { thing = ap (λ f. f ∷ hs) first.thing ∙ ap (λ fs. g ∷ fs) later.thing; rest = later.rest }
 
 no_fact_begins : (P : Protocol) → HasNames P → (f : Fact Term) (x y : List ℕ) → IsFactOf P f → fact_text P f x ≡ 61 ∷ y → ⊥
-no_fact_begins P names f x y is e = tree_begins (written_fact P f) x 61 y (fact_is_loose P names f is) refl e
+no_fact_begins P names f x y is e =
+    let loose = written_fact P f in
+    word_begins loose.predicate (phase_text loose.phase (40 ∷ row loose.arguments (41 ∷ x))) 61 y (fact_is_loose P names f is).word refl e
 
 hypotheses_apart : (P : Protocol) → HasNames P → (hs gs : List (Fact Term)) (k l : List ℕ) → AllByRecursion (IsFactOf P) hs → AllByRecursion (IsFactOf P) gs → hypotheses_text P hs (61 ∷ k) ≡ hypotheses_text P gs (61 ∷ l) → Same hs gs k l
 hypotheses_apart P names [] [] k l are_h are_g e = record { thing = refl; rest = later_same 61 61 k l e }

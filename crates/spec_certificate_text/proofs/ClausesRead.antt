@@ -13,7 +13,7 @@ use Rattle.spec_certificate_text.specs.Clauses.{one_hypothesis, read_hypotheses,
 use Rattle.spec_certificate_text.specs.Readable.{IsHypothesisOf, IsReadable}
 use Rattle.spec_certificate_text.proofs.Parts.{IsThere, Sound, Finds, parts, joined, chosen, when_false, fixed_there, fixed_found}
 use Rattle.spec_certificate_text.proofs.Things.{things_text, IsOne, Complete, things_there, things_found}
-use Rattle.spec_certificate_text.proofs.Long.{onto_long, things_long}
+use Rattle.spec_certificate_text.proofs.Long.{fact_long, things_long}
 use Rattle.spec_certificate_text.proofs.FactsThere.{hypothesis_there, conclusion_there}
 use Rattle.spec_certificate_text.proofs.FactsFound.{hypothesis_found, conclusion_found}
 
@@ -56,8 +56,8 @@ one_hypothesis_found P names (h, false) rest at may =
     (λ p. joined (read_fixed (codes " => ") (32 ∷ 61 ∷ 62 ∷ 32 ∷ rest) p) (λ _ q r. Found (h, false) q r) tt rest (h, false) rest (fixed_found (codes " => ") rest p) (λ q. record { place = q; is = refl }))
 
 pub hypothesis_long : (P : Protocol) (x : Fact Term × Bool) (k : List ℕ) → length k + 1 ≤ length (hypothesis_text P x k)
-hypothesis_long P (h, true) k = omega (arith, onto_long (written_fact P h) (44 ∷ 32 ∷ k))
-hypothesis_long P (h, false) k = omega (arith, onto_long (written_fact P h) (32 ∷ 61 ∷ 62 ∷ 32 ∷ k))
+hypothesis_long P (h, true) k = omega (arith, fact_long (written_fact P h) (44 ∷ 32 ∷ k))
+hypothesis_long P (h, false) k = omega (arith, fact_long (written_fact P h) (32 ∷ 61 ∷ 62 ∷ 32 ∷ k))
 
 hypotheses_are : (P : Protocol) (h : Fact Term) (hs : List (Fact Term)) (rest : List ℕ) → things_text (hypothesis_text P) h hs rest ≡ hypotheses_text P (h ∷ hs) (61 ∷ 62 ∷ 32 ∷ rest)
 hypotheses_are P h [] rest = refl

@@ -1,5 +1,5 @@
 -- Texts with what follows them: the rest may stand behind.
-use Rattle.std.proofs.Common.{◌≡◌, ℕ, List, [], ◌∷◌, ◌++◌, ap, ◌∙◌, refl, append_assoc, codes}
+use Rattle.std.proofs.Common.{◌≡◌, ℕ, zero, suc, List, [], ◌∷◌, ◌++◌, ap, ◌∙◌, refl, append_assoc, codes}
 use Rattle.std.specs.Fmt.{decimal}
 use Rattle.spec_trees.specs.Tree.{Leaf, Node, none, more}
 use Rattle.spec_calculus.specs.Syntax.{Protocol}
@@ -7,8 +7,8 @@ use Rattle.spec_terms.specs.Term.{Term}
 use Rattle.spec_clauses.specs.Fact.{Fact, Clause}
 use Rattle.spec_certificates.specs.Certificate.{Certificate}
 use Rattle.spec_certificate_text.specs.Loose.{Head, Applied, Tupled, Made, Attackers, Loose, LooseRow, opening, closing, onto, row, behind}
-use Rattle.spec_certificate_text.specs.Written.{written_fact}
-use Rattle.spec_certificate_text.specs.Text.{fact_text, later_hypotheses, hypotheses_text, clause_text, clause_lines, numbers_text, row_lines, certificate_text}
+use Rattle.spec_certificate_text.specs.Written.{LooseFact, written_fact}
+use Rattle.spec_certificate_text.specs.Text.{phase_text, fact_onto, fact_text, later_hypotheses, hypotheses_text, clause_text, clause_lines, numbers_text, row_lines, certificate_text}
 
 pub opening_followed : (head : Head) (k rest : List ℕ) → opening head k ++ rest ≡ opening head (k ++ rest)
 opening_followed (Applied word) k rest = append_assoc word (40 ∷ k) rest
@@ -29,8 +29,17 @@ mutual
   behind_followed none k rest = refl
   behind_followed (more t ts) k rest = ap (λ l. 44 ∷ l) (onto_followed t (behind ts k) rest ∙ ap (onto t) (behind_followed ts k rest))
 
+pub phase_followed : (n : ℕ) (k rest : List ℕ) → phase_text n k ++ rest ≡ phase_text n (k ++ rest)
+phase_followed zero k rest = refl
+phase_followed (suc n) k rest = ap (λ l. 64 ∷ l) (append_assoc (decimal (suc n)) k rest)
+
+loose_followed : (f : LooseFact) (k rest : List ℕ) → fact_onto f k ++ rest ≡ fact_onto f (k ++ rest)
+loose_followed f k rest =
+    append_assoc f.predicate (phase_text f.phase (40 ∷ row f.arguments (41 ∷ k))) rest
+    ∙ ap (λ l. f.predicate ++ l) (phase_followed f.phase (40 ∷ row f.arguments (41 ∷ k)) rest ∙ ap (λ l. phase_text f.phase (40 ∷ l)) (row_followed f.arguments (41 ∷ k) rest))
+
 fact_followed : (P : Protocol) (f : Fact Term) (k rest : List ℕ) → fact_text P f k ++ rest ≡ fact_text P f (k ++ rest)
-fact_followed P f k rest = onto_followed (written_fact P f) k rest
+fact_followed P f k rest = loose_followed (written_fact P f) k rest
 
 later_followed : (P : Protocol) (hs : List (Fact Term)) (k rest : List ℕ) → later_hypotheses P hs k ++ rest ≡ later_hypotheses P hs (k ++ rest)
 later_followed P [] k rest = refl

@@ -1,15 +1,15 @@
 -- Facts and clauses are read as they are on a walk that keeps its state.
 use Rattle.std.proofs.Common.{◌≡◌, ℕ, zero, suc, ◌+◌, ◌≤◌, ◌==◌, if◌then◌else◌, Bool, true, false, List, [], ◌∷◌, ◌++◌, length, take, drop, codes, Option, Some, None, refl, sym, subst, arith}
 use Rattle.std.specs.List.{prefix_len}
-use Rattle.spec_calculus.specs.Syntax.{Protocol}
+use Rattle.spec_calculus.specs.Syntax.{Declared, Protocol}
 use Rattle.spec_protocol_tokens.specs.Bytes.{begins_word, is_in_word}
 use Rattle.spec_terms.specs.Term.{Term}
-use Rattle.spec_clauses.specs.Fact.{Fact, Att, Mess, Ev, Mev, Bad, Clause}
-use Rattle.spec_certificate_text.specs.Names.{CalledEvent, event_called}
+use Rattle.spec_clauses.specs.Fact.{Fact, Att, Mess, Tab, Ev, Mev, Bad, Clause}
+use Rattle.spec_certificate_text.specs.Names.{CalledEvent, called_in}
 use Rattle.spec_certificate_text.specs.Terms.{Syntax, Symbol}
 use Rattle.spec_certificate_text.specs.Outcomes.{Outcome, Found, Faulty, next, front, ended, read_fixed, Reader, things_from, things}
 use Rattle.spec_certificate_text.specs.Facts as facts
-use Rattle.spec_certificate_text.specs.Facts.{Performed, performed, one_term}
+use Rattle.spec_certificate_text.specs.Facts.{Performed, performed, one_term, read_phase}
 use Rattle.spec_certificate_text.specs.Clauses as clauses
 use Rattle.spec_certificate_text.specs.ReadWords.{word_of}
 use Rattle.spec_certificate_text.specs.Rounds.{rounds, collects}
@@ -134,36 +134,48 @@ module _ {S : Type 0} (s : S) where
     named_alike None from place rest = faulty from Symbol
     named_alike (Some called) from place rest = applied_alike called from place rest
 
-    -- an event is read behind its word
-    words_alike : (bytes : List ℕ) (at size : ℕ) → Alike (As {A = Performed}) (facts.event_before P (take size bytes) at (at + size) (drop size bytes)) (next (word_of size bytes at) (λ word p r. walks.event_named (spelled_term P) (event_called P word) at s r p))
-    words_alike bytes at size = by (drop size bytes)
+    -- an event or an entry is read behind its word
+    words_alike : (ds : List Declared) (bytes : List ℕ) (at size : ℕ) → Alike (As {A = Performed}) (facts.call_before P ds (take size bytes) at (at + size) (drop size bytes)) (next (word_of size bytes at) (λ word p r. walks.event_named (spelled_term P) (called_in ds word) at s r p))
+    words_alike ds bytes at size = by (drop size bytes)
       where
-        by : (rest : List ℕ) → Alike (As {A = Performed}) (ended (at + size) rest (facts.event_named P (event_called P (take size bytes)) at (at + size) rest))
-            (next (ended (at + size) rest (Found (take size bytes) (at + size) rest)) (λ word p r. walks.event_named (spelled_term P) (event_called P word) at s r p))
+        by : (rest : List ℕ) → Alike (As {A = Performed}) (ended (at + size) rest (facts.event_named P (called_in ds (take size bytes)) at (at + size) rest))
+            (next (ended (at + size) rest (Found (take size bytes) (at + size) rest)) (λ word p r. walks.event_named (spelled_term P) (called_in ds word) at s r p))
         by [] = faulty (at + size) Syntax
-        by (b ∷ rest) = named_alike (event_called P (take size bytes)) at (at + size) (b ∷ rest)
+        by (b ∷ rest) = named_alike (called_in ds (take size bytes)) at (at + size) (b ∷ rest)
 
-    words_if : (bytes : List ℕ) (at size : ℕ) (b : Bool) → Alike (As {A = Performed}) (if b then facts.event_before P (take size bytes) at (at + size) (drop size bytes) else Faulty at Syntax)
-        (next (if b then word_of size bytes at else Faulty at Syntax) (λ word p r. walks.event_named (spelled_term P) (event_called P word) at s r p))
-    words_if bytes at size true = words_alike bytes at size
-    words_if bytes at size false = faulty at Syntax
+    words_if : (ds : List Declared) (bytes : List ℕ) (at size : ℕ) (b : Bool) → Alike (As {A = Performed}) (if b then facts.call_before P ds (take size bytes) at (at + size) (drop size bytes) else Faulty at Syntax)
+        (next (if b then word_of size bytes at else Faulty at Syntax) (λ word p r. walks.event_named (spelled_term P) (called_in ds word) at s r p))
+    words_if ds bytes at size true = words_alike ds bytes at size
+    words_if ds bytes at size false = faulty at Syntax
 
     event_alike : Go (facts.read_event P) (walks.read_event (spelled_term P) P)
-    event_alike bytes at = words_if bytes at (prefix_len is_in_word bytes) (begins_word (front bytes))
+    event_alike bytes at = words_if P.events bytes at (prefix_len is_in_word bytes) (begins_word (front bytes))
+
+    entry_alike : Go (facts.read_entry P) (walks.read_entry (spelled_term P) P)
+    entry_alike bytes at = words_if P.tables bytes at (prefix_len is_in_word bytes) (begins_word (front bytes))
 
     -- Facts.
 
-    att_alike : Go (facts.read_att P) (walks.read_att (spelled_term P) no_counts)
-    att_alike bytes at = same_alike (As {A = Fact Term}) (read_fixed (codes "att(") bytes at) _ _ (λ _ p r.
+    att_alike : Go (facts.read_att P) (walks.read_att (spelled_term P) no_counts P)
+    att_alike bytes at = same_alike (As {A = Fact Term}) (read_fixed (codes "att") bytes at) _ _ (λ _ p r.
+        same_alike (As {A = Fact Term}) (read_phase P r p) _ _ (λ k p r.
+        same_alike (As {A = Fact Term}) (read_fixed (codes "(") r p) _ _ (λ _ p r.
         then_alike {A = Term} {B = Fact Term} (one_term P r p) (spelled_term P s r p) _ _ (term_alike r p) (λ t p r.
-        same_alike (As {A = Fact Term}) (read_fixed (codes ")") r p) _ _ (λ _ p r. found (Att 0 t) (Att 0 t, s) p r (still (Att 0 t)))))
+        same_alike (As {A = Fact Term}) (read_fixed (codes ")") r p) _ _ (λ _ p r. found (Att k t) (Att k t, s) p r (still (Att k t)))))))
 
-    mess_alike : Go (facts.read_mess P) (walks.read_mess (spelled_term P) no_counts)
-    mess_alike bytes at = same_alike (As {A = Fact Term}) (read_fixed (codes "mess(") bytes at) _ _ (λ _ p r.
+    mess_alike : Go (facts.read_mess P) (walks.read_mess (spelled_term P) no_counts P)
+    mess_alike bytes at = same_alike (As {A = Fact Term}) (read_fixed (codes "mess") bytes at) _ _ (λ _ p r.
+        same_alike (As {A = Fact Term}) (read_phase P r p) _ _ (λ k p r.
+        same_alike (As {A = Fact Term}) (read_fixed (codes "(") r p) _ _ (λ _ p r.
         then_alike {A = Term} {B = Fact Term} (one_term P r p) (spelled_term P s r p) _ _ (term_alike r p) (λ t p r.
         same_alike (As {A = Fact Term}) (read_fixed (codes ",") r p) _ _ (λ _ p r.
         then_alike {A = Term} {B = Fact Term} (one_term P r p) (spelled_term P s r p) _ _ (term_alike r p) (λ u p r.
-        same_alike (As {A = Fact Term}) (read_fixed (codes ")") r p) _ _ (λ _ p r. found (Mess 0 t u) (Mess 0 t u, s) p r (still (Mess 0 t u)))))))
+        same_alike (As {A = Fact Term}) (read_fixed (codes ")") r p) _ _ (λ _ p r. found (Mess k t u) (Mess k t u, s) p r (still (Mess k t u)))))))))
+
+    tab_alike : Go (facts.read_tab P) (walks.read_tab (spelled_term P) no_counts P)
+    tab_alike bytes at = same_alike (As {A = Fact Term}) (read_fixed (codes "tab(") bytes at) _ _ (λ _ p r.
+        then_alike {A = Performed} {B = Fact Term} (facts.read_entry P r p) (walks.read_entry (spelled_term P) P s r p) _ _ (entry_alike r p) (λ e p r.
+        same_alike (As {A = Fact Term}) (read_fixed (codes ")") r p) _ _ (λ _ p r. found (Tab e.event e.arguments) (Tab e.event e.arguments, s) p r (still (Tab e.event e.arguments)))))
 
     ev_alike : Go (facts.read_ev P) (walks.read_ev (spelled_term P) no_counts P)
     ev_alike bytes at = same_alike (As {A = Fact Term}) (read_fixed (codes "ev(") bytes at) _ _ (λ _ p r.
@@ -192,12 +204,14 @@ module _ {S : Type 0} (s : S) where
     hypothesis_alike : Go (facts.read_hypothesis P) (walks.read_hypothesis (spelled_term P) no_counts P)
     hypothesis_alike bytes at = if_alike (As {A = Fact Term}) (front bytes == 109) _ _ _ _
         (if_alike (As {A = Fact Term}) (front (drop 2 bytes) == 118) _ _ _ _ (mev_alike bytes at) (mess_alike bytes at))
-        (if_alike (As {A = Fact Term}) (front bytes == 101) _ _ _ _ (ev_alike bytes at) (att_alike bytes at))
+        (if_alike (As {A = Fact Term}) (front bytes == 101) _ _ _ _ (ev_alike bytes at)
+        (if_alike (As {A = Fact Term}) (front bytes == 116) _ _ _ _ (tab_alike bytes at) (att_alike bytes at)))
 
     conclusion_alike : Go (facts.read_conclusion P) (walks.read_conclusion (spelled_term P) no_counts P)
     conclusion_alike bytes at = if_alike (As {A = Fact Term}) (front bytes == 109) _ _ _ _ (mess_alike bytes at)
         (if_alike (As {A = Fact Term}) (front bytes == 101) _ _ _ _ (ev_alike bytes at)
-        (if_alike (As {A = Fact Term}) (front bytes == 98) _ _ _ _ (bad_alike bytes at) (att_alike bytes at)))
+        (if_alike (As {A = Fact Term}) (front bytes == 98) _ _ _ _ (bad_alike bytes at)
+        (if_alike (As {A = Fact Term}) (front bytes == 116) _ _ _ _ (tab_alike bytes at) (att_alike bytes at))))
 
     -- Clauses.
 

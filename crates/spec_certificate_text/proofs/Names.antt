@@ -19,7 +19,7 @@ use Rattle.spec_protocol_scope.specs.Words.{IsIdentifier, IsSymbolWord}
 use Rattle.spec_certificate_text.specs.Words.{declared_word, word_of_process, word_at}
 use Rattle.spec_certificate_text.specs.Spelled.{IsWord, AreDigits}
 use Rattle.spec_certificate_text.proofs.Runs.{both_left, both_right}
-use Rattle.spec_certificate_text.specs.OfProtocol.{IsDeclared, IsConstructor, IsEvent, IsRestriction, IsShort, HasNames}
+use Rattle.spec_certificate_text.specs.OfProtocol.{IsDeclared, IsConstructor, IsDeclaredOver, IsEvent, IsTable, IsRestriction, IsShort, HasNames}
 
 -- what holds of all holds of the one of a number
 all_at : {A : Type 0} (Q : A → Type 0) (xs : List A) (i : ℕ) (x : A) → AllByRecursion Q xs → slice_get xs i ≡ Some x → Q x
@@ -50,9 +50,16 @@ free_word P a names is =
 pub symbol_word_is_word : (w : List ℕ) → IsSymbolWord w → IsWord w
 symbol_word_is_word w is = identifier_is_word w is.0
 
+-- the word of an event and of a table
+declared_word_is_word : (ds : List Declared) (e n : ℕ) → AllByRecursion (λ d. IsIdentifier d.word) ds → IsDeclaredOver ds e n → IsWord (declared_word ds e)
+declared_word_is_word ds e n words is =
+    identifier_is_word (declared_word ds e) (subst IsIdentifier (sym (word_is ds e is.declared is.there)) (all_numbered (λ d. IsIdentifier d.word) ds e is.declared words is.there))
+
 pub event_word_is_word : (P : Protocol) (e n : ℕ) → HasNames P → IsEvent P e n → IsWord (declared_word P.events e)
-event_word_is_word P e n names is =
-    identifier_is_word (declared_word P.events e) (subst IsIdentifier (sym (word_is P.events e is.declared is.there)) (all_numbered (λ d. IsIdentifier d.word) P.events e is.declared names.words.events is.there))
+event_word_is_word P e n names is = declared_word_is_word P.events e n names.words.events is
+
+pub table_word_is_word : (P : Protocol) (t n : ℕ) → HasNames P → IsTable P t n → IsWord (declared_word P.tables t)
+table_word_is_word P t n names is = declared_word_is_word P.tables t n names.words.tables is
 
 -- the word of a restriction
 at_new : Process → Type 0
@@ -130,3 +137,6 @@ free_named P a is = ap (option_map (λ d. d.word)) is.there ∙ ap Some (sym (wo
 
 pub event_named : (P : Protocol) (e n : ℕ) → IsEvent P e n → declared.word_of (signature_of P) (declared.Event e) ≡ Some (declared_word P.events e)
 event_named P e n is = ap (option_map (λ d. d.word)) is.there ∙ ap Some (sym (word_is P.events e is.declared is.there))
+
+pub table_named : (P : Protocol) (t n : ℕ) → IsTable P t n → declared.word_of (signature_of P) (declared.Table t) ≡ Some (declared_word P.tables t)
+table_named P t n is = ap (option_map (λ d. d.word)) is.there ∙ ap Some (sym (word_is P.tables t is.declared is.there))

@@ -5,9 +5,9 @@ use Rattle.std.proofs.lemmas.Fmt.{decimal_digit}
 use Rattle.spec_trees.specs.Tree.{node}
 use Rattle.spec_terms.specs.Term.{Attacker}
 use Rattle.spec_clauses.specs.Fact.{Att, Mess, Ev, Mev, Bad}
-use Rattle.spec_certificate_text.specs.OfProtocol.{IsTermOf, IsClauseOf, IsCertificateOf}
+use Rattle.spec_certificate_text.specs.OfProtocol.{IsPhase, IsTermOf, IsClauseOf, IsCertificateOf}
 use Rattle.spec_certificate_text.specs.Text.{clause_text, certificate_text}
-use Rattle.spec_certificate_text.specs.Examples.{channel, key, encryption, event_called, sending, answering, clause, v0, v1, c, k, enc, made, small}
+use Rattle.spec_certificate_text.specs.Examples.{channel, key, encryption, event_called, sending, answering, waiting, clause, v0, v1, c, k, enc, made, small}
 
 pub attacker_names : clause_text sending (clause [] (Att 0 (node Attacker (v0 ∷ [])))) [] ≡ codes "=> att(@[v0])"
 attacker_names = rw (decimal_digit 0 (omega arith)) refl
@@ -36,12 +36,21 @@ ends = rw (decimal_digit 0 (omega arith)) refl
 pub small_certificate : certificate_text sending small [] ≡ codes "cert 1\nc => att(c)\nr 1\nr 3 1\ng 1 1\nend\n"
 small_certificate = rw (decimal_digit 1 (omega arith), decimal_digit 3 (omega arith)) refl
 
+pub keeps : clause_text waiting (clause (Att 0 v0 ∷ []) (Att 1 v0)) [] ≡ codes "att(v0) => att@1(v0)"
+keeps = rw (decimal_digit 0 (omega arith), decimal_digit 1 (omega arith)) refl
+
+pub says_later : clause_text waiting (clause (Att 1 v0 ∷ Att 1 v1 ∷ []) (Mess 1 v0 v1)) [] ≡ codes "att@1(v0), att@1(v1) => mess@1(v0,v1)"
+says_later = rw (decimal_digit 0 (omega arith), decimal_digit 1 (omega arith)) refl
+
+first_phase : IsPhase sending 0
+first_phase = (omega arith, omega arith)
+
 channel_is_one : IsTermOf sending c
 channel_is_one = ((record { declared = channel; there = refl }, refl), tt)
 
 pub small_is_one : IsCertificateOf sending small
 small_is_one = record {
-  clauses = (record { hypotheses = tt; diffs = refl; conclusion = channel_is_one }, tt);
+  clauses = (record { hypotheses = tt; diffs = refl; conclusion = (first_phase, channel_is_one) }, tt);
   rows = ((omega arith, tt), ((omega arith, (omega arith, tt)), tt));
   goals = ((omega arith, (omega arith, tt)), tt);
 }
@@ -56,5 +65,8 @@ pub begins_is_one : IsClauseOf answering (clause (Mev 1 (made 3 ∷ []) ∷ []) 
 begins_is_one = record {
   hypotheses = ((record { declared = event_called (codes "begin"); there = refl; arity = refl }, (made_is_one, tt)), tt);
   diffs = refl;
-  conclusion = (record { declared = encryption; there = refl; data_is = refl; arity = refl }, (made_is_one, (key_is_one, tt)));
+  conclusion = ((omega arith, omega arith), (record { declared = encryption; there = refl; data_is = refl; arity = refl }, (made_is_one, (key_is_one, tt))));
 }
+
+pub keeps_is_one : IsClauseOf waiting (clause (Att 0 v0 ∷ []) (Att 1 v0))
+keeps_is_one = record { hypotheses = (((omega arith, omega arith), omega arith), tt); diffs = refl; conclusion = ((omega arith, omega arith), omega arith) }

@@ -1,7 +1,8 @@
--- Worked examples: a protocol that sends a new name encrypted, and one whose receiver decrypts what it gets.
+-- Worked examples: a protocol that sends a new name encrypted, one whose receiver decrypts what it gets, and one with a table that
+-- waits for a phase.
 use Rattle.std.specs.Prelude.{ℕ, true, false, List, [], ◌∷◌, codes}
 use Rattle.spec_trees.specs.Tree.{Leaf, node}
-use Rattle.spec_calculus.specs.Syntax.{Declared, Made, Variable, Constructor, Bind, Calls, EventTerm, Rule, Nil, Output, Input, Parallel, Replication, New, Let, Event, SecretNew, Correspondence, Protocol}
+use Rattle.spec_calculus.specs.Syntax.{Declared, Made, Variable, Constructor, Bind, Calls, EventTerm, Rule, Nil, Output, Input, Parallel, Replication, New, Let, Event, Phase, Insert, Secret, SecretNew, Correspondence, Protocol}
 use Rattle.spec_calculus.specs.Syntax as calculus
 use Rattle.spec_terms.specs.Term.{Ctor, Free, Point, Term}
 use Rattle.spec_clauses.specs.Fact.{Fact, Att, Clause}
@@ -61,6 +62,18 @@ answering = record {
   main = Parallel
       (Replication (New (codes "n") (Event (event 1 (Leaf (Made 3))) (Output (Leaf (calculus.Free 1)) (encrypted (Leaf (Made 3))) Nil))))
       (Replication (Input (Leaf (calculus.Free 1)) (Leaf (Bind 1)) (Let (Leaf (Bind 2)) (node (Calls 1) (Leaf x ∷ Leaf (Leaf (calculus.Free 2)) ∷ [])) (Event (event 2 y) Nil) Nil)));
+}
+
+-- free c. private free k. table keys/1. query attacker(k). process insert keys(k); phase 1; out(c,k)
+abbrev pub waiting : Protocol
+waiting = record {
+  frees = channel ∷ key ∷ [];
+  constructors = [];
+  destructors = [];
+  events = [];
+  tables = event_called (codes "keys") ∷ [];
+  queries = Secret (Leaf (calculus.Free 2)) 1 ∷ [];
+  main = Insert 1 (Leaf (calculus.Free 2) ∷ []) (Phase 1 (Output (Leaf (calculus.Free 1)) (Leaf (calculus.Free 2)) Nil));
 }
 
 abbrev pub clause : List (Fact Term) → Fact Term → Clause Term

@@ -1,14 +1,15 @@
--- Reading facts: of phase 0, and of no table.
-use Rattle.std.specs.Prelude.{ℕ, ◌+◌, ◌==◌, if◌then◌else◌, Bool, true, false, List, [], length, take, drop, Option, Some, None, codes}
+-- Reading facts.
+use Rattle.std.specs.Prelude.{ℕ, ◌+◌, ◌==◌, ◌&&◌, nat_lt, nat_le, if◌then◌else◌, Bool, true, false, List, [], length, take, drop, Option, Some, None, codes}
 use Rattle.std.specs.List.{prefix_len}
-use Rattle.spec_calculus.specs.Syntax.{Protocol}
+use Rattle.spec_calculus.specs.Syntax.{Declared, Protocol}
+use Rattle.spec_calculus.specs.Points.{greatest_phase}
 use Rattle.spec_protocol_tokens.specs.Bytes.{begins_word, is_in_word}
 use Rattle.spec_terms.specs.Term.{Term}
-use Rattle.spec_clauses.specs.Fact.{Fact, Att, Mess, Ev, Mev, Bad}
-use Rattle.spec_certificate_text.specs.Names.{CalledEvent, event_called}
+use Rattle.spec_clauses.specs.Fact.{Fact, Att, Mess, Tab, Ev, Mev, Bad}
+use Rattle.spec_certificate_text.specs.Names.{CalledEvent, called_in}
 use Rattle.spec_certificate_text.specs.Terms.{Syntax, Symbol, Arity}
 use Rattle.spec_certificate_text.specs.Runs.{Read, Done, Refused, read_term}
-use Rattle.spec_certificate_text.specs.Outcomes.{Outcome, Found, Faulty, next, front, ended, read_fixed, Reader, things}
+use Rattle.spec_certificate_text.specs.Outcomes.{Outcome, Found, Faulty, next, front, ended, read_fixed, read_number, Reader, things}
 
 -- what was read of a term
 abbrev pub term_outcome : Read → Outcome Term
@@ -29,49 +30,84 @@ argument P bytes at = next (one_term P bytes at) (λ t place rest.
 abbrev pub read_terms : Protocol → Reader (List Term)
 read_terms P bytes at = things (argument P) bytes at
 
--- an event over terms
+-- an event or a table over terms
 pub record Performed : Type 0 where
   pub event : ℕ
   pub arguments : List Term
 
--- the event over these arguments, if it takes as many
+-- what is called so over these arguments, if it takes as many
 abbrev pub performed : ℕ → CalledEvent → List Term → ℕ → List ℕ → Outcome Performed
 performed from called ts place rest =
     if length ts == called.arity then Found (record { event = called.number; arguments = ts }) place rest else Faulty from Arity
 
--- an event whose word, which begins at the first place, names this, if anything, and ends at the other
+-- an event or an entry whose word, which begins at the first place, names this, if anything, and ends at the other
 abbrev pub event_named : Protocol → Option CalledEvent → ℕ → ℕ → List ℕ → Outcome Performed
 event_named P None from place rest = Faulty from Symbol
 event_named P (Some called) from place rest =
     if front rest == 40 then next (read_terms P (drop 1 rest) (place + 1)) (λ ts p r. performed from called ts p r)
     else performed from called [] place rest
 
--- an event of which the word stands before these bytes
-abbrev pub event_before : Protocol → List ℕ → ℕ → ℕ → List ℕ → Outcome Performed
-event_before P word from place rest = ended place rest (event_named P (event_called P word) from place rest)
+-- what one of these declarations over terms is, of which the word stands before these bytes
+abbrev pub call_before : Protocol → List Declared → List ℕ → ℕ → ℕ → List ℕ → Outcome Performed
+call_before P declarations word from place rest = ended place rest (event_named P (called_in declarations word) from place rest)
+
+abbrev pub read_call : Protocol → List Declared → Reader Performed
+read_call P declarations bytes at =
+    if begins_word (front bytes)
+    then call_before P declarations (take (prefix_len is_in_word bytes) bytes) at (at + prefix_len is_in_word bytes) (drop (prefix_len is_in_word bytes) bytes)
+    else Faulty at Syntax
 
 -- an event
 abbrev pub read_event : Protocol → Reader Performed
-read_event P bytes at =
-    if begins_word (front bytes)
-    then event_before P (take (prefix_len is_in_word bytes) bytes) at (at + prefix_len is_in_word bytes) (drop (prefix_len is_in_word bytes) bytes)
-    else Faulty at Syntax
+read_event P bytes at = read_call P P.events bytes at
+
+-- an entry of a table
+abbrev pub read_entry : Protocol → Reader Performed
+read_entry P bytes at = read_call P P.tables bytes at
+
+-- Phases of predicates.
+
+-- whether facts may have it in their texts: a phase of the protocol but 0
+abbrev pub is_later_phase : Protocol → ℕ → Bool
+is_later_phase P k = nat_lt 0 k && nat_le k (greatest_phase P.main)
+
+-- a number that begins at the first place, as a phase
+abbrev pub as_phase : Protocol → ℕ → ℕ → ℕ → List ℕ → Outcome ℕ
+as_phase P from k place rest = if is_later_phase P k then Found k place rest else Faulty from Symbol
+
+-- a later phase
+abbrev pub read_later_phase : Protocol → Reader ℕ
+read_later_phase P bytes at = next (read_number bytes at) (λ k place rest. as_phase P at k place rest)
+
+-- `@` and a later phase, or nothing for phase 0
+abbrev pub read_phase : Protocol → Reader ℕ
+read_phase P bytes at = if front bytes == 64 then read_later_phase P (drop 1 bytes) (at + 1) else Found 0 at bytes
 
 -- Facts of each kind.
 
 abbrev pub read_att : Protocol → Reader (Fact Term)
 read_att P bytes at =
-    next (read_fixed (codes "att(") bytes at) (λ _ p r.
+    next (read_fixed (codes "att") bytes at) (λ _ p r.
+    next (read_phase P r p) (λ k p r.
+    next (read_fixed (codes "(") r p) (λ _ p r.
     next (one_term P r p) (λ t p r.
-    next (read_fixed (codes ")") r p) (λ _ p r. Found (Att 0 t) p r)))
+    next (read_fixed (codes ")") r p) (λ _ p r. Found (Att k t) p r)))))
 
 abbrev pub read_mess : Protocol → Reader (Fact Term)
 read_mess P bytes at =
-    next (read_fixed (codes "mess(") bytes at) (λ _ p r.
+    next (read_fixed (codes "mess") bytes at) (λ _ p r.
+    next (read_phase P r p) (λ k p r.
+    next (read_fixed (codes "(") r p) (λ _ p r.
     next (one_term P r p) (λ t p r.
     next (read_fixed (codes ",") r p) (λ _ p r.
     next (one_term P r p) (λ u p r.
-    next (read_fixed (codes ")") r p) (λ _ p r. Found (Mess 0 t u) p r)))))
+    next (read_fixed (codes ")") r p) (λ _ p r. Found (Mess k t u) p r)))))))
+
+abbrev pub read_tab : Protocol → Reader (Fact Term)
+read_tab P bytes at =
+    next (read_fixed (codes "tab(") bytes at) (λ _ p r.
+    next (read_entry P r p) (λ e p r.
+    next (read_fixed (codes ")") r p) (λ _ p r. Found (Tab e.event e.arguments) p r)))
 
 abbrev pub read_ev : Protocol → Reader (Fact Term)
 read_ev P bytes at =
@@ -102,11 +138,13 @@ read_mev_or_mess P bytes at = if front (drop 2 bytes) == 118 then read_mev P byt
 abbrev pub read_hypothesis : Protocol → Reader (Fact Term)
 read_hypothesis P bytes at =
     if front bytes == 109 then read_mev_or_mess P bytes at
-    else (if front bytes == 101 then read_ev P bytes at else read_att P bytes at)
+    else (if front bytes == 101 then read_ev P bytes at
+    else (if front bytes == 116 then read_tab P bytes at else read_att P bytes at))
 
 -- a fact that may be a conclusion: any but `mev`
 abbrev pub read_conclusion : Protocol → Reader (Fact Term)
 read_conclusion P bytes at =
     if front bytes == 109 then read_mess P bytes at
     else (if front bytes == 101 then read_ev P bytes at
-    else (if front bytes == 98 then read_bad P bytes at else read_att P bytes at))
+    else (if front bytes == 98 then read_bad P bytes at
+    else (if front bytes == 116 then read_tab P bytes at else read_att P bytes at)))

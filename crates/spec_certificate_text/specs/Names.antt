@@ -47,11 +47,23 @@ if_restriction word point node arguments = if is_restriction_of word node then o
 abbrev pub name_called : Protocol → List ℕ → ℕ → Option Named
 name_called P word point = option_and_then (λ node. if_restriction word point node (numbered (name_arguments 0 P.main) point)) (numbered (nodes P.main) point)
 
--- an event, and how many arguments it takes
+-- an event or a table, and how many arguments it takes
 pub record CalledEvent : Type 0 where
   pub number : ℕ
   pub arity : ℕ
 
+-- what the word names among these declarations
+abbrev pub called_in : List Declared → List ℕ → Option CalledEvent
+called_in declarations word = option_map (λ f. record { number = f.number; arity = f.declared.arity }) (find_from 1 declarations word)
+
 -- the event of the word
 abbrev pub event_called : Protocol → List ℕ → Option CalledEvent
-event_called P word = option_map (λ f. record { number = f.number; arity = f.declared.arity }) (find_from 1 P.events word)
+event_called P word = called_in P.events word
+
+-- the protocol with its tables in the place of its events: an entry of a table is spelled as an event of this protocol is
+abbrev pub with_tables : Protocol → Protocol
+with_tables P = record P { events = P.tables; tables = [] }
+
+-- the table of the word
+abbrev pub table_called : Protocol → List ℕ → Option CalledEvent
+table_called P word = called_in P.tables word

@@ -1,12 +1,11 @@
--- What is of a protocol: each number in it is there, and each symbol has its number of arguments. Only what a text spells is:
--- facts of phase 0, none of a table, and clauses without constraints. So are all clauses of a protocol without phases and
--- tables.
-use Rattle.std.specs.Prelude.{◌≡◌, ℕ, zero, suc, ◌<◌, ◌≤◌, ◌^◌, Bool, true, false, Some, List, [], length}
+-- What is of a protocol: each number in it is there, each symbol has its number of arguments, and no phase is past the greatest.
+-- Only what a text spells is: clauses without constraints.
+use Rattle.std.specs.Prelude.{◌≡◌, ℕ, ◌<◌, ◌≤◌, ◌^◌, Bool, true, false, Some, List, [], length}
 use Rattle.std.specs.List.{AllByRecursion}
 use Rattle.spec_trees.specs.Tree.{Trees, Leaf, Node, none, more, trees, items_of}
 use Rattle.spec_calculus.specs.Bounds.{most_digits, most_arguments}
 use Rattle.spec_calculus.specs.Syntax.{Declared, Process, New, Protocol}
-use Rattle.spec_calculus.specs.Points.{numbered, nodes, name_arguments}
+use Rattle.spec_calculus.specs.Points.{numbered, nodes, name_arguments, greatest_phase}
 use Rattle.spec_terms.specs.Term.{Sym, Ctor, Data, Tuple, Free, Point, Attacker, Term}
 use Rattle.spec_clauses.specs.Fact.{Fact, Att, Mess, Tab, Ev, Mev, Bad, Clause}
 use Rattle.spec_well_formed.specs.Words.{HasDistinctWords}
@@ -25,10 +24,17 @@ pub record IsConstructor (P : Protocol) (is_data : Bool) (number arguments : ℕ
   pub data_is : declared.is_data ≡ is_data
   pub arity : declared.arity ≡ arguments
 
-pub record IsEvent (P : Protocol) (number arguments : ℕ) : Type 0 where
+-- so is one that takes so many arguments
+pub record IsDeclaredOver (declarations : List Declared) (number arguments : ℕ) : Type 0 where
   pub declared : Declared
-  pub there : numbered P.events number ≡ Some declared
+  pub there : numbered declarations number ≡ Some declared
   pub arity : declared.arity ≡ arguments
+
+abbrev pub IsEvent : Protocol → ℕ → ℕ → Type 0
+IsEvent P number arguments = IsDeclaredOver P.events number arguments
+
+abbrev pub IsTable : Protocol → ℕ → ℕ → Type 0
+IsTable P number arguments = IsDeclaredOver P.tables number arguments
 
 -- a restriction stands at the point, and its names have so many arguments
 pub record IsRestriction (P : Protocol) (point arguments : ℕ) : Type 0 where
@@ -59,12 +65,14 @@ abbrev mutual
   AreTermsOf P none = Unit {0}
   AreTermsOf P (more t ts) = IsTermOf P t × AreTermsOf P ts
 
+-- a phase that the protocol has, within the limit of digits
+abbrev pub IsPhase : Protocol → ℕ → Type 0
+IsPhase P k = (k ≤ greatest_phase P.main) × IsShort k
+
 abbrev pub IsFactOf : Protocol → Fact Term → Type 0
-IsFactOf P (Att zero t) = IsTermOf P t
-IsFactOf P (Att (suc k) t) = ⊥
-IsFactOf P (Mess zero t u) = IsTermOf P t × IsTermOf P u
-IsFactOf P (Mess (suc k) t u) = ⊥
-IsFactOf P (Tab table arguments) = ⊥
+IsFactOf P (Att k t) = IsPhase P k × IsTermOf P t
+IsFactOf P (Mess k t u) = IsPhase P k × IsTermOf P t × IsTermOf P u
+IsFactOf P (Tab table arguments) = IsTable P table (length arguments) × AreTermsOf P (trees arguments)
 IsFactOf P (Ev event arguments) = IsEvent P event (length arguments) × AreTermsOf P (trees arguments)
 IsFactOf P (Mev event arguments) = IsEvent P event (length arguments) × AreTermsOf P (trees arguments)
 IsFactOf P (Bad arguments) = AreTermsOf P (trees arguments)

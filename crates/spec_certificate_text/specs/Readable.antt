@@ -1,6 +1,6 @@
 -- What may stand in a certificate's text: terms within the limit of levels, `bad` as a conclusion and `mev` as a hypothesis alone, rows
 -- with a number, and no more clauses than the limit.
-use Rattle.std.specs.Prelude.{◌≡◌, ℕ, zero, suc, ◌≤◌, List, [], ◌∷◌, length}
+use Rattle.std.specs.Prelude.{◌≡◌, ℕ, ◌≤◌, List, [], ◌∷◌, length}
 use Rattle.std.specs.List.{AllByRecursion}
 use Rattle.spec_trees.specs.Tree.{depth}
 use Rattle.spec_calculus.specs.Bounds.{most_term_levels, most_clauses}
@@ -8,29 +8,24 @@ use Rattle.spec_calculus.specs.Syntax.{Protocol}
 use Rattle.spec_terms.specs.Term.{Term}
 use Rattle.spec_clauses.specs.Fact.{Fact, Att, Mess, Tab, Ev, Mev, Bad, Clause}
 use Rattle.spec_certificates.specs.Certificate.{Certificate}
-use Rattle.spec_certificate_text.specs.OfProtocol.{IsShort, IsEvent, IsTermOf}
+use Rattle.spec_certificate_text.specs.OfProtocol.{IsShort, IsPhase, IsEvent, IsTable, IsTermOf}
 
 -- a term of the protocol that isn't too deep
 abbrev pub MayStand : Protocol → Term → Type 0
 MayStand P t = IsTermOf P t × (depth t ≤ most_term_levels)
 
--- facts of phase 0, and of no table: the others aren't spelled yet
 abbrev pub IsHypothesisOf : Protocol → Fact Term → Type 0
-IsHypothesisOf P (Att zero t) = MayStand P t
-IsHypothesisOf P (Att (suc k) t) = ⊥
-IsHypothesisOf P (Mess zero t u) = MayStand P t × MayStand P u
-IsHypothesisOf P (Mess (suc k) t u) = ⊥
-IsHypothesisOf P (Tab table arguments) = ⊥
+IsHypothesisOf P (Att k t) = IsPhase P k × MayStand P t
+IsHypothesisOf P (Mess k t u) = IsPhase P k × MayStand P t × MayStand P u
+IsHypothesisOf P (Tab table arguments) = IsTable P table (length arguments) × AllByRecursion (MayStand P) arguments
 IsHypothesisOf P (Ev event arguments) = IsEvent P event (length arguments) × AllByRecursion (MayStand P) arguments
 IsHypothesisOf P (Mev event arguments) = IsEvent P event (length arguments) × AllByRecursion (MayStand P) arguments
 IsHypothesisOf P (Bad arguments) = ⊥
 
 abbrev pub IsConclusionOf : Protocol → Fact Term → Type 0
-IsConclusionOf P (Att zero t) = MayStand P t
-IsConclusionOf P (Att (suc k) t) = ⊥
-IsConclusionOf P (Mess zero t u) = MayStand P t × MayStand P u
-IsConclusionOf P (Mess (suc k) t u) = ⊥
-IsConclusionOf P (Tab table arguments) = ⊥
+IsConclusionOf P (Att k t) = IsPhase P k × MayStand P t
+IsConclusionOf P (Mess k t u) = IsPhase P k × MayStand P t × MayStand P u
+IsConclusionOf P (Tab table arguments) = IsTable P table (length arguments) × AllByRecursion (MayStand P) arguments
 IsConclusionOf P (Ev event arguments) = IsEvent P event (length arguments) × AllByRecursion (MayStand P) arguments
 IsConclusionOf P (Mev event arguments) = ⊥
 IsConclusionOf P (Bad arguments) = AllByRecursion (MayStand P) arguments

@@ -1,18 +1,27 @@
 -- The texts of terms, facts, clauses and certificates, each with what follows it.
-use Rattle.std.specs.Prelude.{ℕ, List, [], ◌∷◌, ◌++◌, codes}
+use Rattle.std.specs.Prelude.{ℕ, zero, suc, List, [], ◌∷◌, ◌++◌, codes}
 use Rattle.std.specs.Fmt.{decimal}
 use Rattle.spec_calculus.specs.Syntax.{Protocol}
 use Rattle.spec_terms.specs.Term.{Term}
 use Rattle.spec_clauses.specs.Fact.{Fact, Clause}
 use Rattle.spec_certificates.specs.Certificate.{Certificate}
-use Rattle.spec_certificate_text.specs.Loose.{onto}
-use Rattle.spec_certificate_text.specs.Written.{written, written_fact}
+use Rattle.spec_certificate_text.specs.Loose.{onto, row}
+use Rattle.spec_certificate_text.specs.Written.{written, LooseFact, written_fact}
 
 abbrev pub term_text : Protocol → Term → List ℕ → List ℕ
 term_text P t rest = onto (written P t) rest
 
+-- the phase of a predicate: nothing for phase 0, and `@` and its digits for each later one
+abbrev pub phase_text : ℕ → List ℕ → List ℕ
+phase_text zero rest = rest
+phase_text (suc k) rest = 64 ∷ (decimal (suc k) ++ rest)
+
+-- a fact: its predicate with the phase, and in parentheses what it speaks of, a comma between each two
+abbrev pub fact_onto : LooseFact → List ℕ → List ℕ
+fact_onto f rest = f.predicate ++ phase_text f.phase (40 ∷ row f.arguments (41 ∷ rest))
+
 abbrev pub fact_text : Protocol → Fact Term → List ℕ → List ℕ
-fact_text P f rest = onto (written_fact P f) rest
+fact_text P f rest = fact_onto (written_fact P f) rest
 
 -- hypotheses behind the first, a comma and a space before each, and a space behind the last
 abbrev pub later_hypotheses : Protocol → List (Fact Term) → List ℕ → List ℕ

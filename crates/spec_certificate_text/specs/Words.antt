@@ -1,4 +1,4 @@
--- The words that a protocol has for symbols and events.
+-- The words that a protocol has for symbols, events and tables.
 use Rattle.std.specs.Prelude.{ℕ, List, [], option_map, unwrap_or}
 use Rattle.spec_calculus.specs.Syntax.{Declared, Process, New, Protocol}
 use Rattle.spec_calculus.specs.Points.{numbered, nodes}
@@ -28,3 +28,6 @@ symbol_word P Attacker = []
 
 abbrev pub event_word : Protocol → ℕ → List ℕ
 event_word P event = declared_word P.events event
+
+abbrev pub table_word : Protocol → ℕ → List ℕ
+table_word P table = declared_word P.tables table

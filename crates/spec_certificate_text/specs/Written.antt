@@ -1,13 +1,12 @@
--- Terms and facts, written as loose trees with the words of a protocol. Neither a phase nor the word of a table is spelled yet: only
--- facts of phase 0 and of no table are told apart by their texts.
+-- Terms and facts, written as loose trees with the words of a protocol.
 use Rattle.std.specs.Prelude.{ℕ, List, ◌∷◌, codes}
 use Rattle.std.specs.Fmt.{decimal}
 use Rattle.spec_trees.specs.Tree.{Trees, Leaf, Node, none, more, trees}
-use Rattle.spec_calculus.specs.Syntax.{Protocol}
+use Rattle.spec_calculus.specs.Syntax.{Declared, Protocol}
 use Rattle.spec_terms.specs.Term.{Sym, Ctor, Data, Tuple, Free, Point, Attacker, Term}
 use Rattle.spec_clauses.specs.Fact.{Fact, Att, Mess, Tab, Ev, Mev, Bad}
 use Rattle.spec_certificate_text.specs.Loose.{Loose, LooseRow, Applied, Tupled, Made, Attackers}
-use Rattle.spec_certificate_text.specs.Words.{symbol_word, event_word}
+use Rattle.spec_certificate_text.specs.Words.{declared_word, symbol_word}
 
 -- a word over arguments: without any it stands alone
 abbrev pub applied : List ℕ → LooseRow → Loose
@@ -33,15 +32,27 @@ abbrev mutual
   written_row P none = none
   written_row P (more t ts) = more (written P t) (written_row P ts)
 
--- an event of terms is written as a constructor is
-abbrev pub written_event : Protocol → ℕ → List Term → Loose
-written_event P event arguments = applied (event_word P event) (written_row P (trees arguments))
+-- one of these declarations over terms is written as a constructor is
+abbrev pub written_call : Protocol → List Declared → ℕ → List Term → Loose
+written_call P declarations number arguments = applied (declared_word declarations number) (written_row P (trees arguments))
 
--- a fact is written as its predicate over what it speaks of
-abbrev pub written_fact : Protocol → Fact Term → Loose
-written_fact P (Att phase t) = Node (Applied (codes "att")) (more (written P t) none)
-written_fact P (Mess phase t u) = Node (Applied (codes "mess")) (more (written P t) (more (written P u) none))
-written_fact P (Tab table arguments) = Node (Applied (codes "tab")) (written_row P (trees arguments))
-written_fact P (Ev event arguments) = Node (Applied (codes "ev")) (more (written_event P event arguments) none)
-written_fact P (Mev event arguments) = Node (Applied (codes "mev")) (more (written_event P event arguments) none)
-written_fact P (Bad arguments) = Node (Applied (codes "bad")) (written_row P (trees arguments))
+-- an event of terms, and an entry of a table
+abbrev pub written_event : Protocol → ℕ → List Term → Loose
+written_event P event arguments = written_call P P.events event arguments
+
+abbrev pub written_entry : Protocol → ℕ → List Term → Loose
+written_entry P table arguments = written_call P P.tables table arguments
+
+-- a fact as it stands in a text: its predicate, the phase of that, which is 0 where it has none, and what it speaks of
+pub record LooseFact : Type 0 where
+  pub predicate : List ℕ
+  pub phase : ℕ
+  pub arguments : LooseRow
+
+abbrev pub written_fact : Protocol → Fact Term → LooseFact
+written_fact P (Att phase t) = record { predicate = codes "att"; phase = phase; arguments = more (written P t) none }
+written_fact P (Mess phase t u) = record { predicate = codes "mess"; phase = phase; arguments = more (written P t) (more (written P u) none) }
+written_fact P (Tab table arguments) = record { predicate = codes "tab"; phase = 0; arguments = more (written_entry P table arguments) none }
+written_fact P (Ev event arguments) = record { predicate = codes "ev"; phase = 0; arguments = more (written_event P event arguments) none }
+written_fact P (Mev event arguments) = record { predicate = codes "mev"; phase = 0; arguments = more (written_event P event arguments) none }
+written_fact P (Bad arguments) = record { predicate = codes "bad"; phase = 0; arguments = written_row P (trees arguments) }

@@ -1,7 +1,8 @@
 //! The texts of clauses, certificates and reports, over the words of a protocol, and their reading.
 //!
 //! A clause is its hypotheses, a comma and a space between each two and a space behind the last, `=> ` and its conclusion:
-//! `att(v0), att(v1) => att(enc(v0,v1))`. A certificate is lines: `cert 1`, the clauses behind `c `, the cover rows behind
+//! `att(v0), att(v1) => att(enc(v0,v1))`. A fact of a phase past the first has `@` and that phase behind its predicate, as in
+//! `att(v0) => att@1(v0)`. A certificate is lines: `cert 1`, the clauses behind `c `, the cover rows behind
 //! `r`, the goal rows behind `g`, each number behind a space, and `end`; a line feed ends each. A report is a line for each
 //! query of a protocol, in order, and behind `proved` a certificate or none; what is told of a query that isn't proved is not
 //! looked at.
@@ -22,13 +23,14 @@ ghost use Rattle.spec_trees.specs.Tree.{node, depth};
 ghost use Rattle.spec_calculus.specs.Syntax.{Protocol};
 ghost use Rattle.spec_protocol_scope.specs.Spells.{Spells};
 ghost use Rattle.spec_terms.specs.Term.{Attacker, Term};
-ghost use Rattle.spec_clauses.specs.Fact.{Fact, Att, Mess, Ev, Mev, Bad, Clause};
+ghost use Rattle.spec_clauses.specs.Fact.{Fact, Att, Mess, Tab, Ev, Mev, Bad, Clause};
 ghost use Rattle.spec_certificates.specs.Certificate.{Certificate};
 ghost use Rattle.spec_certificate_text.specs.Spelled.{Stops, goes_on};
 ghost use Rattle.spec_certificate_text.specs.OfProtocol.{HasNames, IsTermOf, IsFactOf, IsClauseOf};
 ghost use Rattle.spec_certificate_text.specs.OfProtocol.{IsCertificateOf, IsShort};
 ghost use Rattle.spec_certificate_text.specs.Text.{term_text, fact_text, clause_text, certificate_text};
-ghost use Rattle.spec_certificate_text.specs.Examples.{sending, answering, clause, v0, v1, c, k, enc, made};
+ghost use Rattle.spec_certificate_text.specs.Examples.{sending, answering, waiting, clause, v0, v1, c, k, enc};
+ghost use Rattle.spec_certificate_text.specs.Examples.{made};
 ghost use Rattle.spec_certificate_text.specs.Examples.{small};
 ghost use Rattle.spec_calculus.specs.Bounds.{most_term_levels};
 ghost use Rattle.spec_certificate_text.specs.Terms.{Code, Syntax, Number, Symbol, Arity};
@@ -74,6 +76,23 @@ pub fn worked_certificate()
     ensures is_one { IsCertificateOf sending small }
     ensures begins_is_one { IsClauseOf answering
         (clause (Mev 1 (made 3 ∷ []) ∷ []) (Att 0 (enc (made 3) k))) }
+{}
+
+/// The texts of clauses about a later phase and a table, and the refusals of phases and tables that the protocol hasn't.
+pub fn worked_phases()
+    ensures keeps { clause_text waiting (clause (Att 0 v0 ∷ []) (Att 1 v0)) [] ≡
+        codes "att(v0) => att@1(v0)" }
+    ensures says { clause_text waiting (clause (Att 1 v0 ∷ Att 1 v1 ∷ []) (Mess 1 v0 v1)) [] ≡
+        codes "att@1(v0), att@1(v1) => mess@1(v0,v1)" }
+    ensures stores { clause_text waiting (clause [] (Tab 1 (k ∷ []))) [] ≡
+        codes "=> tab(keys(k))" }
+    ensures keeps_is_one { IsClauseOf waiting (clause (Att 0 v0 ∷ []) (Att 1 v0)) }
+    ensures past { read_hypothesis waiting (codes "att@2(c)") 0 ≡ Faulty 4 Symbol }
+    ensures first { read_hypothesis waiting (codes "att@0(c)") 0 ≡ Faulty 4 Symbol }
+    ensures zeros { read_hypothesis waiting (codes "att@01(c)") 0 ≡ Faulty 4 Number }
+    ensures cut { read_hypothesis waiting (codes "att@2") 0 ≡ Faulty 5 Syntax }
+    ensures table { read_conclusion waiting (codes "tab(k(c))") 0 ≡ Faulty 4 Symbol }
+    ensures count { read_conclusion waiting (codes "tab(keys)") 0 ≡ Faulty 4 Arity }
 {}
 
 /// Terms of a protocol are told apart by their texts, where what follows begins with nothing that a word alone could go on with.

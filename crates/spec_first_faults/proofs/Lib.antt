@@ -14,3 +14,5 @@ pub mod Events
 pub mod Facts
 pub mod Clauses
 pub mod Reports
+pub mod Tables
+pub mod Phases

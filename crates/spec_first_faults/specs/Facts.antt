@@ -1,11 +1,16 @@
--- The kinds of events and facts, as the grammar has them.
-use Rattle.std.specs.Prelude.{◌≡◌, ◌≢◌, ℕ, ◌||◌, ◌==◌, Bool, List, [], ◌∷◌, length, codes}
+-- The kinds of events, phases and facts, as the grammar has them.
+use Rattle.std.specs.Prelude.{◌≡◌, ◌≢◌, ℕ, ◌≤◌, ◌||◌, ◌==◌, Bool, false, List, [], ◌∷◌, length, codes}
+use Rattle.std.specs.Char.{is_ascii_digit}
+use Rattle.std.specs.Fmt.{decimal}
 use Rattle.std.specs.List.{AllByRecursion}
 use Rattle.spec_calculus.specs.Syntax.{Protocol}
+use Rattle.spec_calculus.specs.Points.{greatest_phase}
 use Rattle.spec_protocol_tokens.specs.Bytes.{begins_word, is_in_word}
 use Rattle.spec_terms.specs.Term.{Term}
 use Rattle.spec_certificate_text.specs.Loose.{onto}
-use Rattle.spec_certificate_text.specs.OfProtocol.{IsEvent}
+use Rattle.spec_certificate_text.specs.OfProtocol.{IsShort, IsEvent}
+use Rattle.spec_certificate_text.specs.Names.{with_tables}
+use Rattle.spec_certificate_text.specs.Outcomes.{front}
 use Rattle.spec_certificate_text.specs.Words.{event_word}
 use Rattle.spec_certificate_text.specs.Written.{written_event}
 use Rattle.spec_certificate_text.specs.Terms.{Code, Symbol, Arity}
@@ -13,6 +18,7 @@ use Rattle.spec_certificate_text.specs.Readable.{MayStand}
 use Rattle.spec_certificate_faults.specs.Grammar.{EndsAt}
 use Rattle.spec_certificate_faults.specs.First.{Kind, terms}
 use Rattle.spec_first_faults.specs.Kinds.{fixed, IsRun, runs, nothing_before, behind, one_of, marked, row_of}
+use Rattle.spec_first_faults.specs.Numbers.{numbers}
 
 -- terms, a comma between each two, and `)`
 abbrev pub arguments : Protocol → Kind
@@ -65,15 +71,51 @@ applications P = one_of (behind (fixed (codes "(")) (arguments P)) (nothing_befo
 abbrev pub events : Protocol → Kind
 events P = marked (behind (marked words (WordFault P)) (applications P)) (EventFault P)
 
+-- Entries of tables, which are spelled as events are.
+
+abbrev pub entries : Protocol → Kind
+entries P = events (with_tables P)
+
+-- Phases.
+
+-- Symbol: a number that is no phase of the protocol past the first
+pub record IsNoPhase (P : Protocol) (bytes : List ℕ) : Type 0 where
+  pub rest : List ℕ
+  pub digits : IsRun is_ascii_digit is_ascii_digit bytes rest
+  pub number : ℕ
+  pub short : IsShort number
+  pub is : digits.run ≡ decimal number
+  pub none : 1 ≤ number → number ≤ greatest_phase P.main → ⊥
+
+abbrev pub PhaseFault : Protocol → Code → List ℕ → Type 0
+PhaseFault P Symbol bytes = IsNoPhase P bytes
+PhaseFault P code bytes = ⊥
+
+-- no phase begins
+abbrev pub BeginsNoPhase : List ℕ → Type 0
+BeginsNoPhase bytes = (front bytes == 64) ≡ false
+
+-- what stands behind a predicate: `@` and a phase past the first, or nothing
+abbrev pub phases : Protocol → Kind
+phases P = one_of (behind (fixed (codes "@")) (marked numbers (PhaseFault P))) (nothing_before BeginsNoPhase)
+
 -- Facts.
 
--- `att(`, a term and `)`
-abbrev pub known : Protocol → Kind
-known P = behind (fixed (codes "att(")) (behind (terms P) (fixed (codes ")")))
+-- a predicate with its phase, `(` and what it speaks of
+abbrev pub in_phase : List ℕ → Protocol → Kind → Kind
+in_phase word P K = behind (fixed word) (behind (phases P) (behind (fixed (codes "(")) K))
 
--- `mess(`, a term, a comma, a term and `)`
+-- `att` with its phase, `(`, a term and `)`
+abbrev pub known : Protocol → Kind
+known P = in_phase (codes "att") P (behind (terms P) (fixed (codes ")")))
+
+-- `mess` with its phase, `(`, a term, a comma, a term and `)`
 abbrev pub sent : Protocol → Kind
-sent P = behind (fixed (codes "mess(")) (behind (terms P) (behind (fixed (codes ",")) (behind (terms P) (fixed (codes ")")))))
+sent P = in_phase (codes "mess") P (behind (terms P) (behind (fixed (codes ",")) (behind (terms P) (fixed (codes ")")))))
+
+-- `tab(`, an entry and `)`
+abbrev pub stored : Protocol → Kind
+stored P = behind (fixed (codes "tab(")) (behind (entries P) (fixed (codes ")")))
 
 -- `ev(` or `mev(`, an event and `)`
 abbrev pub performed : List ℕ → Protocol → Kind
@@ -85,8 +127,8 @@ violated P = behind (fixed (codes "bad(")) (one_of (fixed (codes ")")) (argument
 
 -- any fact but `bad`
 abbrev pub hypotheses : Protocol → Kind
-hypotheses P = one_of (one_of (performed (codes "mev(") P) (sent P)) (one_of (performed (codes "ev(") P) (known P))
+hypotheses P = one_of (one_of (performed (codes "mev(") P) (sent P)) (one_of (performed (codes "ev(") P) (one_of (stored P) (known P)))
 
 -- any fact but `mev`
 abbrev pub conclusions : Protocol → Kind
-conclusions P = one_of (sent P) (one_of (performed (codes "ev(") P) (one_of (violated P) (known P)))
+conclusions P = one_of (sent P) (one_of (performed (codes "ev(") P) (one_of (violated P) (one_of (stored P) (known P))))

@@ -1,14 +1,14 @@
 -- Facts, clauses and certificates are read by counts as they are read by all terms.
 use Rattle.std.proofs.Common.{◌≡◌, ℕ, zero, suc, ◌+◌, ◌==◌, if◌then◌else◌, Bool, true, false, List, [], ◌∷◌, ◌++◌, length, take, drop, codes, Option, Some, None, refl}
 use Rattle.std.specs.List.{prefix_len}
-use Rattle.spec_calculus.specs.Syntax.{Protocol}
+use Rattle.spec_calculus.specs.Syntax.{Declared, Protocol}
 use Rattle.spec_protocol_tokens.specs.Bytes.{begins_word, is_in_word}
 use Rattle.spec_terms.specs.Term.{Term}
-use Rattle.spec_clauses.specs.Fact.{Fact, Att, Mess, Ev, Mev, Bad, Clause}
-use Rattle.spec_certificate_text.specs.Names.{CalledEvent, event_called}
+use Rattle.spec_clauses.specs.Fact.{Fact, Att, Mess, Tab, Ev, Mev, Bad, Clause}
+use Rattle.spec_certificate_text.specs.Names.{CalledEvent, called_in}
 use Rattle.spec_certificate_text.specs.Terms.{Syntax, Symbol}
 use Rattle.spec_certificate_text.specs.Outcomes.{Outcome, Found, Faulty, next, front, ended, read_fixed, read_number, Reader}
-use Rattle.spec_certificate_text.specs.Facts.{Performed, performed}
+use Rattle.spec_certificate_text.specs.Facts.{Performed, performed, read_phase}
 use Rattle.spec_certificate_text.specs.ReadWords.{word_of}
 use Rattle.spec_certificate_text.specs.Rounds.{rounds, collects, puts}
 use Rattle.spec_certificate_text.proofs.Rounds.{behind_round, one_more, none_left}
@@ -106,39 +106,46 @@ module _ (P : Protocol) (T : Table) (starts : HaveStarts T.terms T.starts) where
       then_alike (kept.read_applied P T.terms w rest place) (facts.applied T v rest place) _ _ (applied_alike w v rest place is)
       (λ ts w v p r is. same_alike (Along T) (performed from called ts p r) _ _ (λ e p r. found _ _ p r (along e w v is)))
 
-  -- an event is read behind its word
-  words_alike : (w : walks.Walked) (v : Counted) (bytes : List ℕ) (at size : ℕ) → IsAlong T w v
-      → Alike (Along T) (ended (at + size) (drop size bytes) (kept.event_named P T.terms (event_called P (take size bytes)) w at (at + size) (drop size bytes)))
-      (next (word_of size bytes at) (λ word p r. facts.event_named T (event_called P word) at v r p))
-  words_alike w v bytes at size is = by (drop size bytes)
+  -- an event or an entry is read behind its word
+  words_alike : (ds : List Declared) (w : walks.Walked) (v : Counted) (bytes : List ℕ) (at size : ℕ) → IsAlong T w v
+      → Alike (Along T) (ended (at + size) (drop size bytes) (kept.event_named P T.terms (called_in ds (take size bytes)) w at (at + size) (drop size bytes)))
+      (next (word_of size bytes at) (λ word p r. facts.event_named T (called_in ds word) at v r p))
+  words_alike ds w v bytes at size is = by (drop size bytes)
     where
-      by : (rest : List ℕ) → Alike (Along T) (ended (at + size) rest (kept.event_named P T.terms (event_called P (take size bytes)) w at (at + size) rest))
-          (next (ended (at + size) rest (Found (take size bytes) (at + size) rest)) (λ word p r. facts.event_named T (event_called P word) at v r p))
+      by : (rest : List ℕ) → Alike (Along T) (ended (at + size) rest (kept.event_named P T.terms (called_in ds (take size bytes)) w at (at + size) rest))
+          (next (ended (at + size) rest (Found (take size bytes) (at + size) rest)) (λ word p r. facts.event_named T (called_in ds word) at v r p))
       by [] = faulty (at + size) Syntax
-      by (b ∷ rest) = event_alike (event_called P (take size bytes)) w v at (at + size) (b ∷ rest) is
+      by (b ∷ rest) = event_alike (called_in ds (take size bytes)) w v at (at + size) (b ∷ rest) is
 
-  words_if : (w : walks.Walked) (v : Counted) (bytes : List ℕ) (at size : ℕ) → IsAlong T w v → (b : Bool)
-      → Alike (Along {A = Performed} T) (if b then ended (at + size) (drop size bytes) (kept.event_named P T.terms (event_called P (take size bytes)) w at (at + size) (drop size bytes)) else Faulty at Syntax)
-      (next (if b then word_of size bytes at else Faulty at Syntax) (λ word p r. facts.event_named T (event_called P word) at v r p))
-  words_if w v bytes at size is true = words_alike w v bytes at size is
-  words_if w v bytes at size is false = faulty at Syntax
+  words_if : (ds : List Declared) (w : walks.Walked) (v : Counted) (bytes : List ℕ) (at size : ℕ) → IsAlong T w v → (b : Bool)
+      → Alike (Along {A = Performed} T) (if b then ended (at + size) (drop size bytes) (kept.event_named P T.terms (called_in ds (take size bytes)) w at (at + size) (drop size bytes)) else Faulty at Syntax)
+      (next (if b then word_of size bytes at else Faulty at Syntax) (λ word p r. facts.event_named T (called_in ds word) at v r p))
+  words_if ds w v bytes at size is true = words_alike ds w v bytes at size is
+  words_if ds w v bytes at size is false = faulty at Syntax
 
   read_event_alike : Go (kept.read_event P T.terms) (facts.read_event P T)
-  read_event_alike w v bytes at is = words_if w v bytes at (prefix_len is_in_word bytes) is (begins_word (front bytes))
+  read_event_alike w v bytes at is = words_if P.events w v bytes at (prefix_len is_in_word bytes) is (begins_word (front bytes))
+
+  read_entry_alike : Go (kept.read_entry P T.terms) (facts.read_entry P T)
+  read_entry_alike w v bytes at is = words_if P.tables w v bytes at (prefix_len is_in_word bytes) is (begins_word (front bytes))
 
   -- Facts.
 
-  att_alike : Go (kept.read_att P T.terms) (facts.read_att T)
-  att_alike w v bytes at is = same_alike (Along T) (read_fixed (codes "att(") bytes at) _ _ (λ _ p r.
+  att_alike : Go (kept.read_att P T.terms) (facts.read_att P T)
+  att_alike w v bytes at is = same_alike (Along T) (read_fixed (codes "att") bytes at) _ _ (λ _ p r.
+      same_alike (Along T) (read_phase P r p) _ _ (λ k p r.
+      same_alike (Along T) (read_fixed (codes "(") r p) _ _ (λ _ p r.
       then_alike _ _ _ _ (term_alike (walks.with_signs 1 w) (counts.with_symbols 1 v) r p (symbols_along T w v 1 is)) (λ t w v p r is.
-      same_alike (Along T) (read_fixed (codes ")") r p) _ _ (λ _ p r. found _ _ p r (along (Att 0 t) w v is))))
+      same_alike (Along T) (read_fixed (codes ")") r p) _ _ (λ _ p r. found _ _ p r (along (Att k t) w v is))))))
 
-  mess_alike : Go (kept.read_mess P T.terms) (facts.read_mess T)
-  mess_alike w v bytes at is = same_alike (Along T) (read_fixed (codes "mess(") bytes at) _ _ (λ _ p r.
+  mess_alike : Go (kept.read_mess P T.terms) (facts.read_mess P T)
+  mess_alike w v bytes at is = same_alike (Along T) (read_fixed (codes "mess") bytes at) _ _ (λ _ p r.
+      same_alike (Along T) (read_phase P r p) _ _ (λ k p r.
+      same_alike (Along T) (read_fixed (codes "(") r p) _ _ (λ _ p r.
       then_alike _ _ _ _ (term_alike (walks.with_signs 1 w) (counts.with_symbols 1 v) r p (symbols_along T w v 1 is)) (λ t w v p r is.
       same_alike (Along T) (read_fixed (codes ",") r p) _ _ (λ _ p r.
       then_alike _ _ _ _ (term_alike w v r p is) (λ u w v p r is.
-      same_alike (Along T) (read_fixed (codes ")") r p) _ _ (λ _ p r. found _ _ p r (along (Mess 0 t u) w v is))))))
+      same_alike (Along T) (read_fixed (codes ")") r p) _ _ (λ _ p r. found _ _ p r (along (Mess k t u) w v is))))))))
 
   ev_alike : Go (kept.read_performed P T.terms (codes "ev(") (λ e ts. Ev e ts)) (facts.read_ev P T)
   ev_alike w v bytes at is = same_alike (Along T) (read_fixed (codes "ev(") bytes at) _ _ (λ _ p r.
@@ -149,6 +156,11 @@ module _ (P : Protocol) (T : Table) (starts : HaveStarts T.terms T.starts) where
   mev_alike w v bytes at is = same_alike (Along T) (read_fixed (codes "mev(") bytes at) _ _ (λ _ p r.
       then_alike _ _ _ _ (read_event_alike (walks.with_signs 2 w) (counts.with_symbols 2 v) r p (symbols_along T w v 2 is)) (λ e w v p r is.
       same_alike (Along T) (read_fixed (codes ")") r p) _ _ (λ _ p r. found _ _ p r (along (Mev e.event e.arguments) w v is))))
+
+  tab_alike : Go (kept.read_tab P T.terms) (facts.read_tab P T)
+  tab_alike w v bytes at is = same_alike (Along T) (read_fixed (codes "tab(") bytes at) _ _ (λ _ p r.
+      then_alike _ _ _ _ (read_entry_alike (walks.with_signs 2 w) (counts.with_symbols 2 v) r p (symbols_along T w v 2 is)) (λ e w v p r is.
+      same_alike (Along T) (read_fixed (codes ")") r p) _ _ (λ _ p r. found _ _ p r (along (Tab e.event e.arguments) w v is))))
 
   bad_if : (w : walks.Walked) (v : Counted) (p : ℕ) (r : List ℕ) → IsAlong T w v → (b : Bool) → Alike (Along {A = Fact Term} T)
       (if b then next (read_fixed (codes ")") r p) (λ _ p r. Found (with (Bad []) w) p r) else next (kept.read_terms P T.terms w r p) (λ x p r. Found (with (Bad x.value) x.walked) p r))
@@ -164,12 +176,14 @@ module _ (P : Protocol) (T : Table) (starts : HaveStarts T.terms T.starts) where
   hypothesis_alike : Go (kept.read_hypothesis P T.terms) (facts.read_hypothesis P T)
   hypothesis_alike w v bytes at is = if_alike (Along T) (front bytes == 109) _ _ _ _
       (if_alike (Along T) (front (drop 2 bytes) == 118) _ _ _ _ (mev_alike w v bytes at is) (mess_alike w v bytes at is))
-      (if_alike (Along T) (front bytes == 101) _ _ _ _ (ev_alike w v bytes at is) (att_alike w v bytes at is))
+      (if_alike (Along T) (front bytes == 101) _ _ _ _ (ev_alike w v bytes at is)
+      (if_alike (Along T) (front bytes == 116) _ _ _ _ (tab_alike w v bytes at is) (att_alike w v bytes at is)))
 
   conclusion_alike : Go (kept.read_conclusion P T.terms) (facts.read_conclusion P T)
   conclusion_alike w v bytes at is = if_alike (Along T) (front bytes == 109) _ _ _ _ (mess_alike w v bytes at is)
       (if_alike (Along T) (front bytes == 101) _ _ _ _ (ev_alike w v bytes at is)
-      (if_alike (Along T) (front bytes == 98) _ _ _ _ (bad_alike w v bytes at is) (att_alike w v bytes at is)))
+      (if_alike (Along T) (front bytes == 98) _ _ _ _ (bad_alike w v bytes at is)
+      (if_alike (Along T) (front bytes == 116) _ _ _ _ (tab_alike w v bytes at is) (att_alike w v bytes at is))))
 
   -- Clauses.
 

@@ -22,11 +22,11 @@ argument T w bytes at = walks.argument (read_term T) w bytes at
 abbrev pub read_terms : Table → Walk (List Term)
 read_terms T w bytes at = walks.read_terms (read_term T) w bytes at
 
--- what stands behind the word of an event
+-- what stands behind the word of an event or a table
 abbrev pub applied : Table → Walk (List Term)
 applied T w bytes at = walks.applied (read_term T) w bytes at
 
--- an event whose word, which begins at the first place, names this, if anything
+-- an event or an entry whose word, which begins at the first place, names this, if anything
 abbrev pub event_named : Table → Option CalledEvent → ℕ → Walk Performed
 event_named T called from w bytes at = walks.event_named (read_term T) called from w bytes at
 
@@ -34,13 +34,20 @@ event_named T called from w bytes at = walks.event_named (read_term T) called fr
 abbrev pub read_event : Protocol → Table → Walk Performed
 read_event P T w bytes at = walks.read_event (read_term T) P w bytes at
 
+-- an entry of a table
+abbrev pub read_entry : Protocol → Table → Walk Performed
+read_entry P T w bytes at = walks.read_entry (read_term T) P w bytes at
+
 -- Facts of each kind.
 
-abbrev pub read_att : Table → Walk (Fact Term)
-read_att T w bytes at = walks.read_att (read_term T) with_symbols w bytes at
+abbrev pub read_att : Protocol → Table → Walk (Fact Term)
+read_att P T w bytes at = walks.read_att (read_term T) with_symbols P w bytes at
 
-abbrev pub read_mess : Table → Walk (Fact Term)
-read_mess T w bytes at = walks.read_mess (read_term T) with_symbols w bytes at
+abbrev pub read_mess : Protocol → Table → Walk (Fact Term)
+read_mess P T w bytes at = walks.read_mess (read_term T) with_symbols P w bytes at
+
+abbrev pub read_tab : Protocol → Table → Walk (Fact Term)
+read_tab P T w bytes at = walks.read_tab (read_term T) with_symbols P w bytes at
 
 abbrev pub read_ev : Protocol → Table → Walk (Fact Term)
 read_ev P T w bytes at = walks.read_ev (read_term T) with_symbols P w bytes at

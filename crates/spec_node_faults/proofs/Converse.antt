@@ -14,7 +14,7 @@ use Rattle.spec_clauses.specs.Fact as fact
 use Rattle.spec_clauses.proofs.Inclusion.{all_has}
 use Rattle.spec_clauses.proofs.Lists.{all_append, all_weaker, all_first, all_second}
 use Rattle.spec_certificates.specs.Certificate.{Certificate}
-use Rattle.spec_certificate_text.specs.OfProtocol.{IsShort, IsEvent, IsSymbolOf, IsTermOf, AreTermsOf, IsFactOf, IsClauseOf, HasNames}
+use Rattle.spec_certificate_text.specs.OfProtocol.{IsShort, IsEvent, IsTable, IsSymbolOf, IsTermOf, AreTermsOf, IsFactOf, IsClauseOf, HasNames}
 use Rattle.spec_certificate_text.specs.Terms.{Code, Number, Symbol, Arity, Count, NodeOrder, NodeLarge}
 use Rattle.spec_certificate_text.specs.Readable.{IsRow}
 use Rattle.spec_node_tables.specs.Nodes.{TableNode, Variable, Over, NodeCertificate, with_nodes, term_at, term_of, terms_from, without_nodes}
@@ -74,11 +74,9 @@ as_many ns = let same = as_many_terms [] ns in omega (arith, same)
 
 module _ (P : Protocol) (ts : List Term) (are : AllByRecursion (IsTermOf P) ts) where
   fact_is : (f : Fact ℕ) → HasPredicate P f → AllByRecursion (IsNumberOf (length ts)) (terms_of f) → IsFactOf P (map_fact (term_at ts) f)
-  fact_is (fact.Att zero n) has numbers = term_is P ts n are numbers.0
-  fact_is (fact.Mess zero m n) has numbers = (term_is P ts m are numbers.0, term_is P ts n are numbers.1.0)
-  fact_is (fact.Att (suc k) n) has numbers = absurd has
-  fact_is (fact.Mess (suc k) m n) has numbers = absurd has
-  fact_is (fact.Tab n ns) has numbers = absurd has
+  fact_is (fact.Att k n) has numbers = (has, term_is P ts n are numbers.0)
+  fact_is (fact.Mess k m n) has numbers = (has, term_is P ts m are numbers.0, term_is P ts n are numbers.1.0)
+  fact_is (fact.Tab n ns) has numbers = (subst (IsTable P n) (sym (length-map ns (term_at ts))) has, row_is P (map (term_at ts) ns) (terms_are P ts ns are numbers))
   fact_is (fact.Ev e ns) has numbers = (subst (IsEvent P e) (sym (length-map ns (term_at ts))) has, row_is P (map (term_at ts) ns) (terms_are P ts ns are numbers))
   fact_is (fact.Mev e ns) has numbers = (subst (IsEvent P e) (sym (length-map ns (term_at ts))) has, row_is P (map (term_at ts) ns) (terms_are P ts ns are numbers))
   fact_is (fact.Bad ns) has numbers = row_is P (map (term_at ts) ns) (terms_are P ts ns are numbers)

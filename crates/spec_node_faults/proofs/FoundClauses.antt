@@ -1,5 +1,5 @@
 -- Clauses whose items are without faults by themselves are clauses of the protocol by numbers, written with its words.
-use Rattle.std.proofs.Common.{◌≡◌, ℕ, ◌+◌, true, false, not, ◌&&◌, ◌==◌, Bool, List, [], ◌∷◌, map, length, Option, Some, None, refl, sym, ◌∙◌, ap, subst, arith}
+use Rattle.std.proofs.Common.{◌≡◌, ℕ, zero, suc, ◌+◌, true, false, not, ◌&&◌, ◌==◌, Bool, List, [], ◌∷◌, map, length, Option, Some, None, refl, sym, ◌∙◌, ap, subst, arith}
 use Rattle.std.specs.Prelude.{flat_map, take}
 use Rattle.std.specs.Fmt.{decimal}
 use Rattle.std.specs.Option.{is_none, option_map_or}
@@ -7,22 +7,29 @@ use Rattle.std.specs.List.{AllByRecursion, list_any}
 use Rattle.std.proofs.lemmas.List.{length-map}
 use Rattle.std.proofs.lemmas.Bool.Decides.{nat_tests}
 use Rattle.spec_calculus.specs.Syntax.{Protocol}
+use Rattle.spec_run_text.specs.Reading.{numeral}
 use Rattle.spec_run_text.proofs.Numbers.{numeral_some}
-use Rattle.spec_clauses.specs.Fact.{Fact, Clause, terms_of}
+use Rattle.spec_clauses.specs.Fact.{Fact, Clause}
 use Rattle.spec_clauses.specs.Fact as fact
 use Rattle.spec_clauses.proofs.Lists.{all_first, all_second}
-use Rattle.spec_certificate_text.specs.OfProtocol.{IsShort, IsEvent}
-use Rattle.spec_certificate_text.specs.Names.{CalledEvent, event_called}
-use Rattle.spec_certificate_text.proofs.Called.{event_called_is}
+use Rattle.spec_certificate_text.specs.OfProtocol.{IsShort, IsEvent, IsTable, IsPhase}
+use Rattle.spec_certificate_text.specs.Names.{CalledEvent, event_called, table_called}
+use Rattle.spec_certificate_text.specs.Facts.{is_later_phase}
+use Rattle.spec_certificate_text.proofs.FactsThere.{later_is_phase}
+use Rattle.spec_certificate_text.proofs.Called.{event_called_is, called_in_is}
 use Rattle.spec_node_tables.specs.OfProtocol.{IsFactOver, IsClauseOver}
-use Rattle.spec_node_faults.specs.Loose.{Predicate, Att, Mess, Tab, Ev, Mev, Bad, LooseFact, LooseClause, fact_onto, clause_line, written_fact, written_clause}
-use Rattle.spec_node_faults.specs.Nodes.{place_if}
-use Rattle.spec_node_faults.specs.Clauses.{Item, Begins, Signs, Event, Number, number_items, fact_items, later_items, facts_items, clause_items, item_numbers, item_symbols, stands_at, item_arities}
+use Rattle.spec_node_faults.specs.Loose.{Predicate, Att, Mess, Tab, Ev, Mev, Bad, LooseFact, LooseClause, phase_digits, fact_onto, clause_line, written_fact, written_clause}
+use Rattle.spec_node_faults.specs.Nodes.{Placed, place_if}
+use Rattle.spec_node_faults.specs.Clauses.{Item, Begins, Signs, Event, Entry, Phase, Number, number_items, phase_items, phase_width, fact_items, later_items, facts_items, clause_items, item_numbers, item_symbols, stands_at, item_arities}
 use Rattle.spec_node_faults.specs.Grammar.{IsPredicateOf, MayBeSupposed, MayBeConcluded, IsHypothesis, IsConclusion, IsClause, MayBeHypothesis, MayBeConclusion, StandsRight}
 use Rattle.spec_node_faults.proofs.Items.{IsGood}
 use Rattle.spec_node_faults.proofs.FoundNodes.{first_empty, second_empty, not_wrong, some_number}
 
 -- Items of which no fault is told are good.
+
+not_not : (b : Bool) → not b ≡ false → b ≡ true
+not_not true e = refl
+not_not false e = absurd (cc)
 
 module _ (P : Protocol) where
   none_at : (items : List Item) → list_any (stands_at []) items ≡ false
@@ -30,23 +37,39 @@ module _ (P : Protocol) where
   none_at (Begins place ∷ items) = none_at items
   none_at (Signs symbols ∷ items) = none_at items
   none_at (Event place word arguments ∷ items) = none_at items
+  none_at (Entry place word arguments ∷ items) = none_at items
+  none_at (Phase p ∷ items) = none_at items
   none_at (Number p ∷ items) = none_at items
+
+  -- what a word calls, of which neither fault is told
+  called_with : {found : Option CalledEvent} (o : Option CalledEvent) → found ≡ o → (arguments : ℕ) (items : List Item) (place : ℕ) → place_if (is_none o) place ≡ []
+      → (option_map_or (λ called. not (called.arity == arguments)) o false && not (list_any (stands_at []) (take arguments items))) ≡ false → (called : CalledEvent) × (found ≡ Some called) × (called.arity ≡ arguments)
+  called_with None e arguments items place none wrong = absurd (cc)
+  called_with (Some called) e arguments items place none wrong =
+      let fewer : (not (called.arity == arguments) && not false) ≡ false = subst (λ b. (not (called.arity == arguments) && not b) ≡ false) (none_at (take arguments items)) wrong in
+      (called, e, same (called.arity == arguments) refl fewer)
+    where
+      same : (b : Bool) → (called.arity == arguments) ≡ b → (not b && true) ≡ false → called.arity ≡ arguments
+      same true is e = grind (arith, nat_tests, is)
+      same false is e = absurd (cc)
 
   event_good : (place : ℕ) (word : List ℕ) (arguments : ℕ) (items : List Item) → place_if (is_none (event_called P word)) place ≡ []
       → place_if (option_map_or (λ called. not (called.arity == arguments)) (event_called P word) false && not (list_any (stands_at []) (take arguments items))) place ≡ [] → IsGood P (Event place word arguments)
   unfolding IsGood
-  event_good place word arguments items known right = by (event_called P word) refl known (not_wrong _ place right)
-    where
-      by : (o : Option CalledEvent) → event_called P word ≡ o → place_if (is_none o) place ≡ [] → (option_map_or (λ called. not (called.arity == arguments)) o false && not (list_any (stands_at []) (take arguments items))) ≡ false
-          → (called : CalledEvent) × (event_called P word ≡ Some called) × (called.arity ≡ arguments)
-      by None e none wrong = absurd (cc)
-      by (Some called) e none wrong =
-          let fewer : (not (called.arity == arguments) && not false) ≡ false = subst (λ b. (not (called.arity == arguments) && not b) ≡ false) (none_at (take arguments items)) wrong in
-          (called, e, same (called.arity == arguments) refl fewer)
-        where
-          same : (b : Bool) → (called.arity == arguments) ≡ b → (not b && true) ≡ false → called.arity ≡ arguments
-          same true is e = grind (arith, nat_tests, is)
-          same false is e = absurd (cc)
+  event_good place word arguments items known right = called_with (event_called P word) refl arguments items place known (not_wrong _ place right)
+
+  entry_good : (place : ℕ) (word : List ℕ) (arguments : ℕ) (items : List Item) → place_if (is_none (table_called P word)) place ≡ []
+      → place_if (option_map_or (λ called. not (called.arity == arguments)) (table_called P word) false && not (list_any (stands_at []) (take arguments items))) place ≡ [] → IsGood P (Entry place word arguments)
+  unfolding IsGood
+  entry_good place word arguments items known right = called_with (table_called P word) refl arguments items place known (not_wrong _ place right)
+
+  -- a phase of which no fault is told
+  later_good : (p : Placed) → place_if (is_none (numeral p.digits)) p.place ≡ [] → place_if (option_map_or (λ k. not (is_later_phase P k)) (numeral p.digits) false) p.place ≡ [] → IsGood P (Phase p)
+  unfolding IsGood
+  later_good p known later =
+      let some = some_number p.place (numeral p.digits) known in
+      let within = subst (λ o. option_map_or (λ k. not (is_later_phase P k)) o false ≡ false) some.1 (not_wrong _ p.place later) in
+      (some.0, some.1, not_not (is_later_phase P some.0) within)
 
   pub items_good : (items : List Item) → flat_map item_numbers items ≡ [] → flat_map (item_symbols P) items ≡ [] → item_arities P [] items ≡ [] → AllByRecursion (IsGood P) items
   unfolding IsGood
@@ -58,6 +81,18 @@ module _ (P : Protocol) where
       let two = place_if (option_map_or (λ called. not (called.arity == arguments)) (event_called P word) false && not (list_any (stands_at []) (take arguments items))) place in (
         event_good place word arguments items (first_empty one (flat_map (item_symbols P) items) symbols) (first_empty two (item_arities P [] items) arities),
         items_good items numbers (second_empty one (flat_map (item_symbols P) items) symbols) (second_empty two (item_arities P [] items) arities),
+      )
+  items_good (Entry place word arguments ∷ items) numbers symbols arities =
+      let one = place_if (is_none (table_called P word)) place in
+      let two = place_if (option_map_or (λ called. not (called.arity == arguments)) (table_called P word) false && not (list_any (stands_at []) (take arguments items))) place in (
+        entry_good place word arguments items (first_empty one (flat_map (item_symbols P) items) symbols) (first_empty two (item_arities P [] items) arities),
+        items_good items numbers (second_empty one (flat_map (item_symbols P) items) symbols) (second_empty two (item_arities P [] items) arities),
+      )
+  items_good (Phase p ∷ items) numbers symbols arities =
+      let one = item_numbers (Phase p) in
+      let two = item_symbols P (Phase p) in (
+        later_good p (first_empty one (flat_map item_numbers items) numbers) (first_empty two (flat_map (item_symbols P) items) symbols),
+        items_good items (second_empty one (flat_map item_numbers items) numbers) (second_empty two (flat_map (item_symbols P) items) symbols) arities,
       )
   items_good (Number p ∷ items) numbers symbols arities =
       let one = item_numbers (Number p) in (
@@ -82,6 +117,23 @@ module _ (P : Protocol) where
       let later = others.text in
       record { found = good.0.0 ∷ others.found; text = ap (λ x. x ∷ map decimal others.found) first ∙ ap (λ xs. d ∷ xs) later; short = (so.1, others.short) }
 
+  -- a phase that is written so
+  record PhaseFound (o : Option (List ℕ)) : Type 0 where
+    found : ℕ
+    text : phase_digits found ≡ o
+    is : IsPhase P found
+
+  later_phase : (k : ℕ) (d : List ℕ) → d ≡ decimal k → is_later_phase P k ≡ true → IsShort k → PhaseFound (Some d)
+  later_phase zero d text later short = absurd (let never : false ≡ true = later in cc)
+  later_phase (suc k) d text later short = record { found = suc k; text = ap Some (sym text); is = ((later_is_phase P (suc k) later).1, short) }
+
+  phase_found : (at : ℕ) (o : Option (List ℕ)) → AllByRecursion (IsGood P) (phase_items at o) → PhaseFound o
+  unfolding IsGood
+  phase_found at None good = record { found = 0; text = refl; is = (omega arith, omega arith) }
+  phase_found at (Some d) good =
+      let so = numeral_some d good.0.0 good.0.1 in
+      later_phase good.0.0 d so.0 good.0.2 so.1
+
   -- a fact by numbers that is written so
   record FactFound (f : LooseFact) : Type 0 where
     found : Fact ℕ
@@ -93,22 +145,40 @@ module _ (P : Protocol) where
 
   fact_found : (at : ℕ) (p : Predicate) (ds : List (List ℕ)) → IsPredicateOf p (length ds) → AllByRecursion (IsGood P) (fact_items at (record { predicate = p; numbers = ds })) → FactFound (record { predicate = p; numbers = ds })
   unfolding IsGood
-  fact_found at Att [] one good = absurd (omega (arith, one))
-  fact_found at Att (d ∷ []) one good =
-      let so = numeral_some d good.1.0.0 good.1.0.1 in
+  fact_found at (Att phase) [] one good = absurd (let many = one.1 in omega (arith, many))
+  fact_found at (Att phase) (d ∷ []) one good =
+      let items = number_items (at + 3 + phase_width phase + 1) (d ∷ []) in
+      let in_phase = phase_found (at + 3) phase (all_first (IsGood P) (phase_items (at + 3) phase) items good.1) in
+      let term = all_second (IsGood P) (phase_items (at + 3) phase) items good.1 in
+      let so = numeral_some d term.0.0 term.0.1 in
+      let named = in_phase.text in
       let text = sym so.0 in
-      record { found = fact.Att 0 good.1.0.0; text = λ i. record { predicate = Att; numbers = text i ∷ [] }; is = (tt, (so.1, tt)) }
-  fact_found at Att (d ∷ e ∷ ds) one good = absurd (omega (arith, one))
-  fact_found at Mess [] two good = absurd (omega (arith, two))
-  fact_found at Mess (d ∷ []) two good = absurd (omega (arith, two))
-  fact_found at Mess (d ∷ e ∷ []) two good =
-      let first = numeral_some d good.1.0.0 good.1.0.1 in
-      let second = numeral_some e good.1.1.0.0 good.1.1.0.1 in
+      record { found = fact.Att in_phase.found term.0.0; text = λ i. record { predicate = Att (named i); numbers = text i ∷ [] }; is = (in_phase.is, (so.1, tt)) }
+  fact_found at (Att phase) (d ∷ e ∷ ds) one good = absurd (let many = one.1 in omega (arith, many))
+  fact_found at (Mess phase) [] two good = absurd (let many = two.1 in omega (arith, many))
+  fact_found at (Mess phase) (d ∷ []) two good = absurd (let many = two.1 in omega (arith, many))
+  fact_found at (Mess phase) (d ∷ e ∷ []) two good =
+      let items = number_items (at + 4 + phase_width phase + 1) (d ∷ e ∷ []) in
+      let in_phase = phase_found (at + 4) phase (all_first (IsGood P) (phase_items (at + 4) phase) items good.1) in
+      let terms = all_second (IsGood P) (phase_items (at + 4) phase) items good.1 in
+      let first = numeral_some d terms.0.0 terms.0.1 in
+      let second = numeral_some e terms.1.0.0 terms.1.0.1 in
+      let named = in_phase.text in
       let text = sym first.0 in
       let later = sym second.0 in
-      record { found = fact.Mess 0 good.1.0.0 good.1.1.0.0; text = λ i. record { predicate = Mess; numbers = text i ∷ later i ∷ [] }; is = (tt, (first.1, (second.1, tt))) }
-  fact_found at Mess (d ∷ e ∷ f ∷ ds) two good = absurd (omega (arith, two))
-  fact_found at Tab ds is good = absurd is
+      record { found = fact.Mess in_phase.found terms.0.0 terms.1.0.0; text = λ i. record { predicate = Mess (named i); numbers = text i ∷ later i ∷ [] }; is = (in_phase.is, (first.1, (second.1, tt))) }
+  fact_found at (Mess phase) (d ∷ e ∷ f ∷ ds) two good = absurd (let many = two.1 in omega (arith, many))
+  fact_found at (Tab word) ds is good =
+      let called = good.1.0 in
+      let named = called_in_is P.tables word called.0 called.1 in
+      let low = numbers_found (at + 4 + length word + 1) ds good.1.1 in
+      let text = low.text in
+      let words = named.has_word in
+      record {
+        found = fact.Tab called.0.number low.found;
+        text = λ i. record { predicate = Tab (words i); numbers = text i };
+        is = (subst (IsTable P called.0.number) (called.2 ∙ many ds low) named.is_of, low.short);
+      }
   fact_found at (Ev word) ds is good =
       let called = good.1.0 in
       let named = event_called_is P word called.0 called.1 in

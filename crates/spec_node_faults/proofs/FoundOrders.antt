@@ -15,7 +15,7 @@ use Rattle.spec_node_tables.specs.Table.{facts_in_order, terms_in_order}
 use Rattle.spec_node_tables.specs.Nodes.{NodeCertificate, term_at, terms_from}
 use Rattle.spec_node_tables.specs.Order.{IsNumberOf, StandInOrder, IsInOrder}
 use Rattle.spec_node_faults.specs.Nodes.{place_if}
-use Rattle.spec_node_faults.specs.Clauses.{Item, Begins, Signs, Event, Number, is_front, completed, is_out_of_order, item_orders}
+use Rattle.spec_node_faults.specs.Clauses.{Item, Begins, Signs, Event, Entry, Phase, Number, is_front, completed, is_out_of_order, item_orders}
 use Rattle.spec_node_faults.proofs.Items.{IsGood, item_values, in_order}
 use Rattle.spec_node_faults.proofs.Orders.{InOrder}
 use Rattle.spec_node_faults.proofs.FoundNodes.{first_empty, second_empty, not_wrong}
@@ -27,6 +27,8 @@ module _ (P : Protocol) where
   orders_told all ts (Begins place ∷ items) good none = orders_told all ts items good.1 none
   orders_told all ts (Signs symbols ∷ items) good none = orders_told all ts items good.1 none
   orders_told all ts (Event place word arguments ∷ items) good none = orders_told all ts items good.1 none
+  orders_told all ts (Entry place word arguments ∷ items) good none = orders_told all ts items good.1 none
+  orders_told all ts (Phase p ∷ items) good none = orders_told all ts items good.1 none
   orders_told all ts (Number p ∷ items) good none =
       let (n, e) = good.0 in
       let one = place_if (is_out_of_order all ts n) p.place in

@@ -13,17 +13,17 @@ use Rattle.spec_terms.specs.Term.{Term}
 use Rattle.spec_clauses.specs.Fact.{Fact, Clause, terms_of, map_fact, map_clause, total, fact_size, clause_size}
 use Rattle.spec_clauses.specs.Fact as fact
 use Rattle.spec_clauses.proofs.Lists.{all_append}
-use Rattle.spec_certificate_text.specs.Words.{event_word}
+use Rattle.spec_certificate_text.specs.Words.{event_word, table_word}
 use Rattle.spec_certificate_text.specs.OfProtocol.{IsShort}
 use Rattle.spec_node_tables.specs.Table.{facts_in_order}
 use Rattle.spec_node_tables.specs.Nodes.{term_at}
 use Rattle.spec_node_tables.specs.OfProtocol.{IsFactOver, IsClauseOver}
 use Rattle.spec_node_tables.specs.Large.{most_certificate_symbols, up_to_terms, up_to_fact, up_to_facts, up_to_clauses, AreUpTo, is_over}
 use Rattle.spec_node_tables.proofs.Sizes.{spelled_total}
-use Rattle.spec_node_faults.specs.Loose.{fact_onto, clause_line, written_fact, written_clause}
+use Rattle.spec_node_faults.specs.Loose.{phase_digits, fact_onto, clause_line, written_fact, written_clause}
 use Rattle.spec_node_faults.specs.Nodes.{place_if}
-use Rattle.spec_node_faults.specs.Clauses.{Item, number_items, fact_items, later_items, facts_items, clause_items, item_larges}
-use Rattle.spec_node_faults.proofs.Sums.{same_sums}
+use Rattle.spec_node_faults.specs.Clauses.{Item, number_items, fact_items, later_items, facts_items, clause_items, item_larges, phase_width}
+use Rattle.spec_node_faults.proofs.Sums.{same_sums, behind_phase}
 use Rattle.spec_node_faults.proofs.FoundNodes.{first_empty, second_empty, not_wrong, neither_first, neither_second}
 
 -- the symbols up to these terms are within both limits
@@ -62,17 +62,19 @@ module _ (table : List Term) (P : Protocol) where
 
   fact_within : (f : Fact ℕ) (clause sum at : ℕ) (k : List Item) → AllByRecursion IsShort (terms_of f) → item_larges table clause sum (fact_items at (written_fact P f) ++ k) ≡ [] → FactWithin clause sum (meant f) k
   fact_within (fact.Att phase n) clause sum at k short none =
-      let so = numbers_within (n ∷ []) (clause + 1) (sum + 1) (at + 4) k short none in
+      let place = at + 3 + phase_width (phase_digits phase) + 1 in
+      let so = numbers_within (n ∷ []) (clause + 1) (sum + 1) place k short (sym (behind_phase table (clause + 1) (sum + 1) (at + 3) place phase (n ∷ []) k) ∙ none) in
       let sizes = total size (map (term_at table) (n ∷ [])) in
       record { small = so.0.small; together = so.0.together; later = same_sums table (clause + (1 + size (term_at table n))) (sum + (1 + size (term_at table n))) (clause + 1 + sizes) (sum + 1 + sizes) k (omega arith) (omega arith) ∙ so.1 }
   fact_within (fact.Mess phase m n) clause sum at k short none =
-      let so = numbers_within (m ∷ n ∷ []) (clause + 1) (sum + 1) (at + 5) k short none in
+      let place = at + 4 + phase_width (phase_digits phase) + 1 in
+      let so = numbers_within (m ∷ n ∷ []) (clause + 1) (sum + 1) place k short (sym (behind_phase table (clause + 1) (sum + 1) (at + 4) place phase (m ∷ n ∷ []) k) ∙ none) in
       let t = term_at table m in
       let u = term_at table n in
       let sizes = total size (map (term_at table) (m ∷ n ∷ [])) in
       record { small = so.0.small; together = so.0.together; later = same_sums table (clause + (1 + (size t + size u))) (sum + (1 + (size t + size u))) (clause + 1 + sizes) (sum + 1 + sizes) k (omega arith) (omega arith) ∙ so.1 }
   fact_within (fact.Tab n ns) clause sum at k short none =
-      let so = numbers_within ns (clause + 2) (sum + 2) (at + 4) k short none in
+      let so = numbers_within ns (clause + 2) (sum + 2) (at + 4 + length (table_word P n) + 1) k short none in
       let sizes = total size (map (term_at table) ns) in
       record { small = so.0.small; together = so.0.together; later = same_sums table (clause + (2 + sizes)) (sum + (2 + sizes)) (clause + 2 + sizes) (sum + 2 + sizes) k (omega arith) (omega arith) ∙ so.1 }
   fact_within (fact.Ev e ns) clause sum at k short none =

@@ -11,17 +11,19 @@ use Rattle.spec_calculus.specs.Bounds.{most_clauses}
 use Rattle.spec_calculus.specs.Syntax.{Protocol}
 use Rattle.spec_run_text.specs.Reading.{numeral}
 use Rattle.spec_run_text.proofs.Numbers.{numeral-decimal}
-use Rattle.spec_clauses.specs.Fact.{Fact, Clause, terms_of, same_term}
+use Rattle.spec_clauses.specs.Fact.{Fact, Clause, terms_of}
 use Rattle.spec_clauses.specs.Fact as fact
 use Rattle.spec_clauses.proofs.Lists.{all_append}
-use Rattle.spec_certificate_text.specs.Words.{event_word}
-use Rattle.spec_certificate_text.specs.OfProtocol.{IsShort, IsEvent, HasNames}
-use Rattle.spec_certificate_text.specs.Names.{CalledEvent, event_called}
-use Rattle.spec_certificate_text.proofs.Called.{event_word_called}
+use Rattle.spec_certificate_text.specs.Words.{event_word, table_word}
+use Rattle.spec_certificate_text.specs.OfProtocol.{IsShort, IsEvent, IsTable, IsPhase, HasNames}
+use Rattle.spec_certificate_text.specs.Names.{CalledEvent, event_called, table_called}
+use Rattle.spec_certificate_text.specs.Facts.{is_later_phase}
+use Rattle.spec_certificate_text.proofs.Called.{event_word_called, table_word_called}
+use Rattle.spec_certificate_text.proofs.FactsFound.{phase_is_later}
 use Rattle.spec_node_tables.specs.OfProtocol.{IsFactOver, IsClauseOver}
-use Rattle.spec_node_faults.specs.Loose.{fact_onto, clause_line, written_fact, written_clause}
+use Rattle.spec_node_faults.specs.Loose.{phase_digits, fact_onto, clause_line, written_fact, written_clause}
 use Rattle.spec_node_faults.specs.Nodes.{place_if}
-use Rattle.spec_node_faults.specs.Clauses.{Item, Begins, Signs, Event, Number, number_items, event_items, fact_items, later_items, facts_items, clause_items, item_numbers, item_symbols, item_begins, clause_counts, stands_at, item_arities}
+use Rattle.spec_node_faults.specs.Clauses.{Item, Begins, Signs, Event, Entry, Phase, Number, number_items, event_items, entry_items, phase_items, phase_width, fact_items, later_items, facts_items, clause_items, item_numbers, item_symbols, item_begins, clause_counts, stands_at, item_arities}
 
 -- Items that are without faults by themselves: events take as many numbers, and digits are numbers.
 
@@ -29,6 +31,8 @@ unfoldable pub IsGood : Protocol → Item → Type 0
 IsGood P (Begins place) = Unit {0}
 IsGood P (Signs symbols) = Unit {0}
 IsGood P (Event place word arguments) = (called : CalledEvent) × (event_called P word ≡ Some called) × (called.arity ≡ arguments)
+IsGood P (Entry place word arguments) = (called : CalledEvent) × (table_called P word ≡ Some called) × (called.arity ≡ arguments)
+IsGood P (Phase p) = (k : ℕ) × (numeral p.digits ≡ Some k) × (is_later_phase P k ≡ true)
 IsGood P (Number p) = (n : ℕ) × (numeral p.digits ≡ Some n)
 
 module _ (P : Protocol) (names : HasNames P) where
@@ -42,11 +46,25 @@ module _ (P : Protocol) (names : HasNames P) where
   good_event at e ns is short =
       (tt, ((record { number = e; arity = length ns }, event_word_called P names e (length ns) is, sym (length-map ns decimal)), good_numbers (at + length (event_word P e) + 1) ns short))
 
+  good_entry : (at t : ℕ) (ns : List ℕ) → IsTable P t (length ns) → AllByRecursion IsShort ns → AllByRecursion (IsGood P) (entry_items at (table_word P t) (map decimal ns))
+  unfolding IsGood
+  good_entry at t ns is short =
+      (tt, ((record { number = t; arity = length ns }, table_word_called P names t (length ns) is, sym (length-map ns decimal)), good_numbers (at + length (table_word P t) + 1) ns short))
+
+  good_phase : (at k : ℕ) → IsPhase P k → AllByRecursion (IsGood P) (phase_items at (phase_digits k))
+  unfolding IsGood
+  good_phase at zero is = tt
+  good_phase at (suc k) is = ((suc k, numeral-decimal (suc k) is.1, phase_is_later P k is.0), tt)
+
   good_fact : (at : ℕ) (f : Fact ℕ) → IsFactOver IsShort P f → AllByRecursion (IsGood P) (fact_items at (written_fact P f))
   unfolding IsGood
-  good_fact at (fact.Att phase n) is = (tt, good_numbers (at + 4) (n ∷ []) is.1)
-  good_fact at (fact.Mess phase m n) is = (tt, good_numbers (at + 5) (m ∷ n ∷ []) is.1)
-  good_fact at (fact.Tab n ns) is = absurd is.0
+  good_fact at (fact.Att phase n) is =
+      let place = at + 3 + phase_width (phase_digits phase) + 1 in
+      (tt, all_append (IsGood P) (phase_items (at + 3) (phase_digits phase)) (number_items place (map decimal (n ∷ []))) (good_phase (at + 3) phase is.0) (good_numbers place (n ∷ []) is.1))
+  good_fact at (fact.Mess phase m n) is =
+      let place = at + 4 + phase_width (phase_digits phase) + 1 in
+      (tt, all_append (IsGood P) (phase_items (at + 4) (phase_digits phase)) (number_items place (map decimal (m ∷ n ∷ []))) (good_phase (at + 4) phase is.0) (good_numbers place (m ∷ n ∷ []) is.1))
+  good_fact at (fact.Tab n ns) is = good_entry (at + 4) n ns is.0 is.1
   good_fact at (fact.Ev e ns) is = good_event (at + 3) e ns is.0 is.1
   good_fact at (fact.Mev e ns) is = good_event (at + 4) e ns is.0 is.1
   good_fact at (fact.Bad ns) is = (tt, good_numbers (at + 4) ns is.1)
@@ -83,6 +101,8 @@ module _ (P : Protocol) (names : HasNames P) where
   numbers_clear (Begins place ∷ items) good = numbers_clear items good.1
   numbers_clear (Signs symbols ∷ items) good = numbers_clear items good.1
   numbers_clear (Event place word arguments ∷ items) good = numbers_clear items good.1
+  numbers_clear (Entry place word arguments ∷ items) good = numbers_clear items good.1
+  numbers_clear (Phase p ∷ items) good = ap (λ o. place_if (is_none o) p.place ++ flat_map item_numbers items) good.0.1 ∙ numbers_clear items good.1
   numbers_clear (Number p ∷ items) good = ap (λ o. place_if (is_none o) p.place ++ flat_map item_numbers items) good.0.1 ∙ numbers_clear items good.1
 
   pub symbols_clear : (items : List Item) → AllByRecursion (IsGood P) items → flat_map (item_symbols P) items ≡ []
@@ -91,6 +111,10 @@ module _ (P : Protocol) (names : HasNames P) where
   symbols_clear (Begins place ∷ items) good = symbols_clear items good.1
   symbols_clear (Signs symbols ∷ items) good = symbols_clear items good.1
   symbols_clear (Event place word arguments ∷ items) good = ap (λ o. place_if (is_none o) place ++ flat_map (item_symbols P) items) good.0.1 ∙ symbols_clear items good.1
+  symbols_clear (Entry place word arguments ∷ items) good = ap (λ o. place_if (is_none o) place ++ flat_map (item_symbols P) items) good.0.1 ∙ symbols_clear items good.1
+  symbols_clear (Phase p ∷ items) good =
+      ap (λ o. place_if (option_map_or (λ k. not (is_later_phase P k)) o false) p.place ++ flat_map (item_symbols P) items) good.0.1
+      ∙ (ap (λ b. place_if (not b) p.place ++ flat_map (item_symbols P) items) good.0.2 ∙ symbols_clear items good.1)
   symbols_clear (Number p ∷ items) good = symbols_clear items good.1
 
   pub arities_clear : (others : List ℕ) (items : List Item) → AllByRecursion (IsGood P) items → item_arities P others items ≡ []
@@ -104,6 +128,13 @@ module _ (P : Protocol) (names : HasNames P) where
       ap (λ o. place_if (option_map_or (λ called. not (called.arity == arguments)) o false && not (list_any (stands_at others) (take arguments items))) place ++ item_arities P others items) good.0.1
       ∙ (ap (λ b. place_if (not b && not (list_any (stands_at others) (take arguments items))) place ++ item_arities P others items) same
       ∙ arities_clear others items good.1)
+  arities_clear others (Entry place word arguments ∷ items) good =
+      let arity = good.0.2 in
+      let same : (good.0.0.arity == arguments) ≡ true = grind (arith, nat_tests, arity) in
+      ap (λ o. place_if (option_map_or (λ called. not (called.arity == arguments)) o false && not (list_any (stands_at others) (take arguments items))) place ++ item_arities P others items) good.0.1
+      ∙ (ap (λ b. place_if (not b && not (list_any (stands_at others) (take arguments items))) place ++ item_arities P others items) same
+      ∙ arities_clear others items good.1)
+  arities_clear others (Phase p ∷ items) good = arities_clear others items good.1
   arities_clear others (Number p ∷ items) good = arities_clear others items good.1
 
 -- Count: as many clauses begin as there are.
@@ -115,11 +146,15 @@ number_begins : (at : ℕ) (ds : List (List ℕ)) → flat_map item_begins (numb
 number_begins at [] = refl
 number_begins at (d ∷ ds) = number_begins (at + length d + 1) ds
 
+phase_begins : (at phase : ℕ) (items : List Item) → flat_map item_begins (phase_items at (phase_digits phase) ++ items) ≡ flat_map item_begins items
+phase_begins at zero items = refl
+phase_begins at (suc k) items = refl
+
 module _ (P : Protocol) where
   fact_begins : (at : ℕ) (f : Fact ℕ) → length (flat_map item_begins (fact_items at (written_fact P f))) ≡ 0
-  fact_begins at (fact.Att phase n) = refl
-  fact_begins at (fact.Mess phase m n) = refl
-  fact_begins at (fact.Tab n ns) = ap length (number_begins (at + 4) (map decimal ns))
+  fact_begins at (fact.Att phase n) = ap length (phase_begins (at + 3) phase (number_items (at + 3 + phase_width (phase_digits phase) + 1) (map decimal (n ∷ []))))
+  fact_begins at (fact.Mess phase m n) = ap length (phase_begins (at + 4) phase (number_items (at + 4 + phase_width (phase_digits phase) + 1) (map decimal (m ∷ n ∷ []))))
+  fact_begins at (fact.Tab n ns) = ap length (number_begins (at + 4 + length (table_word P n) + 1) (map decimal ns))
   fact_begins at (fact.Ev e ns) = ap length (number_begins (at + 3 + length (event_word P e) + 1) (map decimal ns))
   fact_begins at (fact.Mev e ns) = ap length (number_begins (at + 4 + length (event_word P e) + 1) (map decimal ns))
   fact_begins at (fact.Bad ns) = ap length (number_begins (at + 4) (map decimal ns))
@@ -179,11 +214,19 @@ in_order c = c.hypotheses ++ (c.conclusion ∷ [])
 values_append : (xs ys : List Item) (ms ns : List ℕ) → flat_map item_values xs ≡ ms → flat_map item_values ys ≡ ns → flat_map item_values (xs ++ ys) ≡ ms ++ ns
 values_append xs ys ms ns first later = flat_map-append item_values xs ys ∙ (ap (λ zs. zs ++ flat_map item_values ys) first ∙ ap (λ zs. ms ++ zs) later)
 
+phase_values : (at phase : ℕ) (items : List Item) → flat_map item_values (phase_items at (phase_digits phase) ++ items) ≡ flat_map item_values items
+phase_values at zero items = refl
+phase_values at (suc k) items = refl
+
 module _ (P : Protocol) where
   fact_values : (at : ℕ) (f : Fact ℕ) → IsFactOver IsShort P f → flat_map item_values (fact_items at (written_fact P f)) ≡ terms_of f
-  fact_values at (fact.Att phase n) is = number_values (at + 4) (n ∷ []) is.1
-  fact_values at (fact.Mess phase m n) is = number_values (at + 5) (m ∷ n ∷ []) is.1
-  fact_values at (fact.Tab n ns) is = number_values (at + 4) ns is.1
+  fact_values at (fact.Att phase n) is =
+      let place = at + 3 + phase_width (phase_digits phase) + 1 in
+      phase_values (at + 3) phase (number_items place (map decimal (n ∷ []))) ∙ number_values place (n ∷ []) is.1
+  fact_values at (fact.Mess phase m n) is =
+      let place = at + 4 + phase_width (phase_digits phase) + 1 in
+      phase_values (at + 4) phase (number_items place (map decimal (m ∷ n ∷ []))) ∙ number_values place (m ∷ n ∷ []) is.1
+  fact_values at (fact.Tab n ns) is = number_values (at + 4 + length (table_word P n) + 1) ns is.1
   fact_values at (fact.Ev e ns) is = number_values (at + 3 + length (event_word P e) + 1) ns is.1
   fact_values at (fact.Mev e ns) is = number_values (at + 4 + length (event_word P e) + 1) ns is.1
   fact_values at (fact.Bad ns) is = number_values (at + 4) ns is.1

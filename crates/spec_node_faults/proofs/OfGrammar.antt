@@ -1,30 +1,35 @@
 -- What is written with the words of a protocol is of the grammar.
-use Rattle.std.proofs.Common.{ℕ, List, [], ◌∷◌, map, length, refl, ◌∙◌, arith}
+use Rattle.std.proofs.Common.{ℕ, List, [], ◌∷◌, map, length, refl, ◌∙◌, arith, zero, suc}
 use Rattle.std.specs.Fmt.{decimal}
+use Rattle.std.specs.Prelude.{IfSome}
 use Rattle.std.specs.List.{AllByRecursion}
 use Rattle.std.proofs.lemmas.List.{length-map}
 use Rattle.std.proofs.lemmas.Fmt.{decimal_nonempty}
 use Rattle.spec_calculus.specs.Syntax.{Protocol}
 use Rattle.spec_terms.specs.Term.{Ctor, Data, Tuple, Free, Point, Attacker}
-use Rattle.spec_clauses.specs.Fact.{Fact, Clause, terms_of}
+use Rattle.spec_clauses.specs.Fact.{Fact, Clause}
 use Rattle.spec_clauses.specs.Fact as fact
 use Rattle.spec_certificates.specs.Certificate.{Certificate}
 use Rattle.spec_certificate_text.specs.OfProtocol.{IsShort, HasNames}
-use Rattle.spec_certificate_text.proofs.Names.{decimal_digits, event_word_is_word}
+use Rattle.spec_certificate_text.proofs.Names.{decimal_digits, event_word_is_word, table_word_is_word}
 use Rattle.spec_certificate_text.specs.Readable.{IsRow}
 use Rattle.spec_node_tables.specs.Table.{table, number_in}
 use Rattle.spec_node_tables.specs.Nodes.{TableNode, Variable, Over, with_nodes}
-use Rattle.spec_node_tables.specs.Text.{symbol_head, node_head}
+use Rattle.spec_node_tables.specs.Text.{node_head}
 use Rattle.spec_node_tables.specs.Text as short
 use Rattle.spec_node_tables.specs.OfProtocol.{IsNodeOf, IsFactOver, IsClauseOver}
 use Rattle.spec_node_tables.proofs.Lines.{node_head_is}
 use Rattle.spec_node_tables.proofs.Certificates.{mapped_all, with_nodes_is}
 use Rattle.spec_node_tables.proofs.Sizes.{few_nodes}
-use Rattle.spec_node_faults.specs.Loose.{written_node, written_fact, written_clause, written}
+use Rattle.spec_node_faults.specs.Loose.{phase_digits, written_node, written_fact, written_clause, written}
 use Rattle.spec_node_faults.specs.Grammar.{IsNumber, IsHeadOf, IsNode, IsHypothesis, IsConclusion, IsClause, IsNumberRow, IsInGrammar, MayBeHypothesis, MayBeConclusion, StandsRight, IsNumberable}
 
 number_is : (n : ℕ) → IsShort n → IsNumber (decimal n)
 number_is n small = (decimal_digits n small, let some = decimal_nonempty n (omega arith) in omega arith)
+
+phase_is : (k : ℕ) → IsShort k → IfSome (phase_digits k) IsNumber
+phase_is zero small = tt
+phase_is (suc k) small = number_is (suc k) small
 
 numbers_are : (ns : List ℕ) → AllByRecursion IsShort ns → AllByRecursion IsNumber (map decimal ns)
 numbers_are ns small = mapped_all IsShort IsNumber decimal number_is ns small
@@ -47,17 +52,17 @@ module _ (P : Protocol) (names : HasNames P) where
   node_is n is = record { head = head_is n is; numbers = numbers_are (short.node_numbers n) (short_numbers n is) }
 
   hypothesis_is : (f : Fact ℕ) → IsFactOver IsShort P f → MayBeHypothesis f → IsHypothesis (written_fact P f)
-  hypothesis_is (fact.Att phase n) is may = record { predicate = refl; numbers = numbers_are (n ∷ []) is.1; supposed = tt }
-  hypothesis_is (fact.Mess phase m n) is may = record { predicate = refl; numbers = numbers_are (m ∷ n ∷ []) is.1; supposed = tt }
-  hypothesis_is (fact.Tab n ns) is may = absurd is.0
+  hypothesis_is (fact.Att phase n) is may = record { predicate = (phase_is phase is.0.1, refl); numbers = numbers_are (n ∷ []) is.1; supposed = tt }
+  hypothesis_is (fact.Mess phase m n) is may = record { predicate = (phase_is phase is.0.1, refl); numbers = numbers_are (m ∷ n ∷ []) is.1; supposed = tt }
+  hypothesis_is (fact.Tab n ns) is may = record { predicate = table_word_is_word P n (length ns) names is.0; numbers = numbers_are ns is.1; supposed = tt }
   hypothesis_is (fact.Ev e ns) is may = record { predicate = event_word_is_word P e (length ns) names is.0; numbers = numbers_are ns is.1; supposed = tt }
   hypothesis_is (fact.Mev e ns) is may = record { predicate = event_word_is_word P e (length ns) names is.0; numbers = numbers_are ns is.1; supposed = tt }
   hypothesis_is (fact.Bad ns) is may = absurd may
 
   conclusion_is : (f : Fact ℕ) → IsFactOver IsShort P f → MayBeConclusion f → IsConclusion (written_fact P f)
-  conclusion_is (fact.Att phase n) is may = record { predicate = refl; numbers = numbers_are (n ∷ []) is.1; concluded = tt }
-  conclusion_is (fact.Mess phase m n) is may = record { predicate = refl; numbers = numbers_are (m ∷ n ∷ []) is.1; concluded = tt }
-  conclusion_is (fact.Tab n ns) is may = absurd is.0
+  conclusion_is (fact.Att phase n) is may = record { predicate = (phase_is phase is.0.1, refl); numbers = numbers_are (n ∷ []) is.1; concluded = tt }
+  conclusion_is (fact.Mess phase m n) is may = record { predicate = (phase_is phase is.0.1, refl); numbers = numbers_are (m ∷ n ∷ []) is.1; concluded = tt }
+  conclusion_is (fact.Tab n ns) is may = record { predicate = table_word_is_word P n (length ns) names is.0; numbers = numbers_are ns is.1; concluded = tt }
   conclusion_is (fact.Ev e ns) is may = record { predicate = event_word_is_word P e (length ns) names is.0; numbers = numbers_are ns is.1; concluded = tt }
   conclusion_is (fact.Mev e ns) is may = absurd may
   conclusion_is (fact.Bad ns) is may = record { predicate = tt; numbers = numbers_are ns is.1; concluded = tt }

@@ -21,7 +21,7 @@ use Rattle.spec_node_tables.specs.Nodes.{term_at}
 use Rattle.spec_node_tables.proofs.Numbers.{at_place, place_within}
 use Rattle.spec_node_tables.proofs.Back.{mapped_back}
 use Rattle.spec_node_faults.specs.Nodes.{place_if}
-use Rattle.spec_node_faults.specs.Clauses.{Item, Begins, Signs, Event, Number, is_front, completed, is_out_of_order, item_orders, item_terms, has_unreached}
+use Rattle.spec_node_faults.specs.Clauses.{Item, Begins, Signs, Event, Entry, Phase, Number, is_front, completed, is_out_of_order, item_orders, item_terms, has_unreached}
 use Rattle.spec_node_faults.proofs.Items.{IsGood, item_values, in_order}
 
 -- Fronts.
@@ -57,6 +57,8 @@ module _ (P : Protocol) where
   orders_clear all ts (Begins place ∷ items) good order = orders_clear all ts items good.1 order
   orders_clear all ts (Signs symbols ∷ items) good order = orders_clear all ts items good.1 order
   orders_clear all ts (Event place word arguments ∷ items) good order = orders_clear all ts items good.1 order
+  orders_clear all ts (Entry place word arguments ∷ items) good order = orders_clear all ts items good.1 order
+  orders_clear all ts (Phase p ∷ items) good order = orders_clear all ts items good.1 order
   orders_clear all ts (Number p ∷ items) good order =
       let (n, e) = good.0 in
       let steps : InOrder all ts (n ∷ flat_map item_values items) = subst (λ o. InOrder all ts (option_map_or (λ m. m ∷ []) o [] ++ flat_map item_values items)) e order in
@@ -70,6 +72,8 @@ module _ (P : Protocol) where
   terms_values all (Begins place ∷ items) good = terms_values all items good.1
   terms_values all (Signs symbols ∷ items) good = terms_values all items good.1
   terms_values all (Event place word arguments ∷ items) good = terms_values all items good.1
+  terms_values all (Entry place word arguments ∷ items) good = terms_values all items good.1
+  terms_values all (Phase p ∷ items) good = terms_values all items good.1
   terms_values all (Number p ∷ items) good =
       let (n, e) = good.0 in
       ap (λ o. option_map_or (λ m. term_at all m ∷ []) o [] ++ flat_map (item_terms all) items) e

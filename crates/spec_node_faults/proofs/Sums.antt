@@ -1,5 +1,5 @@
 -- The symbols up to each number of a certificate's clauses are those up to each term.
-use Rattle.std.proofs.Common.{◌≡◌, ℕ, ◌+◌, ◌≤◌, false, ◌||◌, List, [], ◌∷◌, ◌++◌, map, length, unwrap_or, refl, ◌∙◌, ap, arith}
+use Rattle.std.proofs.Common.{◌≡◌, ℕ, zero, suc, ◌+◌, ◌≤◌, false, ◌||◌, List, [], ◌∷◌, ◌++◌, map, length, unwrap_or, refl, ◌∙◌, ap, arith, append_assoc}
 use Rattle.std.specs.Fmt.{decimal}
 use Rattle.std.specs.Option.{option_map_or}
 use Rattle.std.specs.List.{AllByRecursion}
@@ -13,16 +13,16 @@ use Rattle.spec_terms.specs.Term.{Term}
 use Rattle.spec_clauses.specs.Fact.{Fact, Att, Mess, Tab, Ev, Mev, Bad, Clause, terms_of, map_fact, map_clause, total, fact_size, clause_size}
 use Rattle.spec_clauses.specs.Inclusion.{Has}
 use Rattle.spec_clauses.proofs.Lists.{all_first, all_second}
-use Rattle.spec_certificate_text.specs.Words.{event_word}
+use Rattle.spec_certificate_text.specs.Words.{event_word, table_word}
 use Rattle.spec_certificate_text.specs.OfProtocol.{IsShort}
 use Rattle.spec_node_tables.specs.Table.{facts_in_order, number_in}
 use Rattle.spec_node_tables.specs.Nodes.{term_at}
 use Rattle.spec_node_tables.specs.Large.{most_certificate_symbols, up_to_terms, up_to_fact, up_to_facts, up_to_clauses, AreUpTo, is_over}
 use Rattle.spec_node_tables.proofs.Numbers.{at_place}
 use Rattle.spec_node_tables.proofs.Sizes.{spelled_total}
-use Rattle.spec_node_faults.specs.Loose.{fact_onto, clause_line, written_fact, written_clause}
+use Rattle.spec_node_faults.specs.Loose.{phase_digits, fact_onto, clause_line, written_fact, written_clause}
 use Rattle.spec_node_faults.specs.Nodes.{place_if}
-use Rattle.spec_node_faults.specs.Clauses.{Item, number_items, fact_items, later_items, facts_items, clause_items, item_larges}
+use Rattle.spec_node_faults.specs.Clauses.{Item, number_items, fact_items, later_items, facts_items, clause_items, item_larges, phase_items, phase_width}
 
 -- a term of the table, with a number within the limit of digits
 pub record IsCounted (all : List Term) (t : Term) : Type 0 where
@@ -52,16 +52,27 @@ module _ (all : List Term) where
       ∙ (terms_summed ts (clause + size t) (sum + size t) (at + length (decimal n) + 1) k stand.1 small.1 together.1
       ∙ same_sums (clause + size t + total size ts) (sum + size t + total size ts) (clause + (size t + total size ts)) (sum + (size t + total size ts)) k (omega arith) (omega arith))))
 
+  phase_summed : (clause sum at phase : ℕ) (k : List Item) → item_larges all clause sum (phase_items at (phase_digits phase) ++ k) ≡ item_larges all clause sum k
+  phase_summed clause sum at zero k = refl
+  phase_summed clause sum at (suc phase) k = refl
+
+  pub behind_phase : (clause sum at place phase : ℕ) (ns : List ℕ) (k : List Item) → item_larges all clause sum ((phase_items at (phase_digits phase) ++ number_items place (map decimal ns)) ++ k) ≡ item_larges all clause sum (number_items place (map decimal ns) ++ k)
+  behind_phase clause sum at place phase ns k =
+      let numbers = number_items place (map decimal ns) in
+      ap (item_larges all clause sum) (append_assoc (phase_items at (phase_digits phase)) numbers k) ∙ phase_summed clause sum at phase (numbers ++ k)
+
   fact_summed : (P : Protocol) (f : Fact Term) (clause sum at : ℕ) (k : List Item) → AllByRecursion (IsCounted all) (terms_of f) → AreUpTo most_symbols (up_to_fact clause f) → AreUpTo most_certificate_symbols (up_to_fact sum f)
       → item_larges all clause sum (fact_items at (written_fact P (map_fact (number_in all) f)) ++ k) ≡ item_larges all (clause + fact_size f) (sum + fact_size f) k
   fact_summed P (Att phase t) clause sum at k stand small together =
-      terms_summed (t ∷ []) (clause + 1) (sum + 1) (at + 4) k stand small together
-      ∙ same_sums (clause + 1 + (size t + 0)) (sum + 1 + (size t + 0)) (clause + (1 + size t)) (sum + (1 + size t)) k (omega arith) (omega arith)
+      behind_phase (clause + 1) (sum + 1) (at + 3) (at + 3 + phase_width (phase_digits phase) + 1) phase (number_in all t ∷ []) k
+      ∙ (terms_summed (t ∷ []) (clause + 1) (sum + 1) (at + 3 + phase_width (phase_digits phase) + 1) k stand small together
+      ∙ same_sums (clause + 1 + (size t + 0)) (sum + 1 + (size t + 0)) (clause + (1 + size t)) (sum + (1 + size t)) k (omega arith) (omega arith))
   fact_summed P (Mess phase t u) clause sum at k stand small together =
-      terms_summed (t ∷ u ∷ []) (clause + 1) (sum + 1) (at + 5) k stand small together
-      ∙ same_sums (clause + 1 + (size t + (size u + 0))) (sum + 1 + (size t + (size u + 0))) (clause + (1 + (size t + size u))) (sum + (1 + (size t + size u))) k (omega arith) (omega arith)
+      behind_phase (clause + 1) (sum + 1) (at + 4) (at + 4 + phase_width (phase_digits phase) + 1) phase (number_in all t ∷ number_in all u ∷ []) k
+      ∙ (terms_summed (t ∷ u ∷ []) (clause + 1) (sum + 1) (at + 4 + phase_width (phase_digits phase) + 1) k stand small together
+      ∙ same_sums (clause + 1 + (size t + (size u + 0))) (sum + 1 + (size t + (size u + 0))) (clause + (1 + (size t + size u))) (sum + (1 + (size t + size u))) k (omega arith) (omega arith))
   fact_summed P (Tab n ts) clause sum at k stand small together =
-      terms_summed ts (clause + 2) (sum + 2) (at + 4) k stand small together
+      terms_summed ts (clause + 2) (sum + 2) (at + 4 + length (table_word P n) + 1) k stand small together
       ∙ same_sums (clause + 2 + total size ts) (sum + 2 + total size ts) (clause + (2 + total size ts)) (sum + (2 + total size ts)) k (omega arith) (omega arith)
   fact_summed P (Ev e ts) clause sum at k stand small together =
       terms_summed ts (clause + 2) (sum + 2) (at + 3 + length (event_word P e) + 1) k stand small together

@@ -1,15 +1,16 @@
 -- A certificate by numbers, written with the words of a protocol, has the text that the protocol gives it.
-use Rattle.std.proofs.Common.{◌≡◌, ℕ, List, [], ◌∷◌, ◌++◌, map, refl, ap, ◌∙◌}
+use Rattle.std.proofs.Common.{◌≡◌, ℕ, List, [], ◌∷◌, ◌++◌, map, refl, ap, ◌∙◌, zero, suc}
 use Rattle.std.specs.Prelude.{codes}
 use Rattle.std.specs.Fmt.{decimal}
-use Rattle.spec_calculus.specs.Syntax.{Protocol}
+use Rattle.spec_calculus.specs.Syntax.{Declared, Protocol}
 use Rattle.spec_clauses.specs.Fact.{Fact, Att, Mess, Tab, Ev, Mev, Bad, Clause}
-use Rattle.spec_certificate_text.specs.Words.{event_word}
+use Rattle.spec_certificate_text.specs.Words.{declared_word, event_word}
+use Rattle.spec_certificate_text.specs.Text.{phase_text}
 use Rattle.spec_certificate_text.specs.Text.{numbers_text, row_lines}
 use Rattle.spec_node_tables.specs.Nodes.{TableNode, NodeCertificate}
 use Rattle.spec_node_tables.specs.Text as short
-use Rattle.spec_node_tables.specs.Text.{number_text, node_head, head_text, node_numbers, terms_text, event_over, fact_over, hypotheses_over, clause_over, clause_lines_over, numbered_text}
-use Rattle.spec_node_faults.specs.Loose.{spaced, later_numbers, commas, node_line, event_onto, fact_onto, later_onto, hypotheses_onto, clause_line, row_line, lines, certificate_onto, written_node, written_fact, written_clause, written}
+use Rattle.spec_node_tables.specs.Text.{number_text, node_head, head_text, node_numbers, terms_text, call_over, event_over, fact_over, hypotheses_over, clause_over, clause_lines_over, numbered_text}
+use Rattle.spec_node_faults.specs.Loose.{spaced, later_numbers, commas, node_line, phase_onto, phase_digits, event_onto, fact_onto, later_onto, hypotheses_onto, clause_line, row_line, lines, certificate_onto, written_node, written_fact, written_clause, written}
 
 numbers_spaced : (ns : List ℕ) (k : List ℕ) → spaced (map decimal ns) k ≡ numbers_text ns k
 numbers_spaced [] k = refl
@@ -24,14 +25,21 @@ module _ (P : Protocol) where
   commas_same [] k = refl
   commas_same (n ∷ ns) k = ap (λ r. decimal n ++ r) (later_same ns k)
 
+  call_same : (ds : List Declared) (e : ℕ) (ns : List ℕ) (k : List ℕ) → event_onto (declared_word ds e) (map decimal ns) k ≡ call_over number_text P ds e ns k
+  call_same ds e [] k = refl
+  call_same ds e (n ∷ ns) k = ap (λ r. declared_word ds e ++ (40 ∷ r)) (commas_same (n ∷ ns) (41 ∷ k))
+
   event_same : (e : ℕ) (ns : List ℕ) (k : List ℕ) → event_onto (event_word P e) (map decimal ns) k ≡ event_over number_text P e ns k
-  event_same e [] k = refl
-  event_same e (n ∷ ns) k = ap (λ r. event_word P e ++ (40 ∷ r)) (commas_same (n ∷ ns) (41 ∷ k))
+  event_same e ns k = call_same P.events e ns k
+
+  phase_same : (phase : ℕ) (k : List ℕ) → phase_onto (phase_digits phase) k ≡ phase_text phase k
+  phase_same zero k = refl
+  phase_same (suc phase) k = refl
 
   fact_same : (f : Fact ℕ) (k : List ℕ) → fact_onto (written_fact P f) k ≡ fact_over number_text P f k
-  fact_same (Att phase n) k = refl
-  fact_same (Mess phase m n) k = refl
-  fact_same (Tab n ns) k = ap (λ r. codes "tab(" ++ r) (commas_same ns (41 ∷ k))
+  fact_same (Att phase n) k = ap (λ r. codes "att" ++ r) (phase_same phase (40 ∷ (decimal n ++ (41 ∷ k))))
+  fact_same (Mess phase m n) k = ap (λ r. codes "mess" ++ r) (phase_same phase (40 ∷ (decimal m ++ (44 ∷ (decimal n ++ (41 ∷ k))))))
+  fact_same (Tab n ns) k = ap (λ r. codes "tab(" ++ r) (call_same P.tables n ns (41 ∷ k))
   fact_same (Ev e ns) k = ap (λ r. codes "ev(" ++ r) (event_same e ns (41 ∷ k))
   fact_same (Mev e ns) k = ap (λ r. codes "mev(" ++ r) (event_same e ns (41 ∷ k))
   fact_same (Bad ns) k = ap (λ r. codes "bad(" ++ r) (commas_same ns (41 ∷ k))

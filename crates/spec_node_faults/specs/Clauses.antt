@@ -1,5 +1,5 @@
 -- The faults of clauses by numbers: where each code stands.
-use Rattle.std.specs.Prelude.{ℕ, ◌+◌, ◌==◌, nat_le, Bool, true, false, not, ◌&&◌, ◌||◌, List, [], ◌∷◌, ◌++◌, map, flat_map, length, take, drop}
+use Rattle.std.specs.Prelude.{ℕ, ◌+◌, ◌==◌, nat_le, Bool, true, false, not, ◌&&◌, ◌||◌, Option, None, Some, List, [], ◌∷◌, ◌++◌, map, flat_map, length, take, drop}
 use Rattle.std.specs.Option.{is_none, option_map_or}
 use Rattle.std.specs.List.{list_any}
 use Rattle.spec_trees.specs.Tree.{size}
@@ -9,7 +9,8 @@ use Rattle.spec_run_text.specs.Reading.{numeral}
 use Rattle.spec_terms.specs.Term.{Term}
 use Rattle.spec_clauses.specs.Fact.{same_term}
 use Rattle.spec_clauses.specs.Norm.{distinct}
-use Rattle.spec_certificate_text.specs.Names.{event_called}
+use Rattle.spec_certificate_text.specs.Names.{event_called, table_called}
+use Rattle.spec_certificate_text.specs.Facts.{is_later_phase}
 use Rattle.spec_node_tables.specs.Table.{walk}
 use Rattle.spec_node_tables.specs.Nodes.{term_at}
 use Rattle.spec_node_tables.specs.Large.{is_over, most_certificate_symbols}
@@ -24,6 +25,10 @@ pub data Item : Type 0 where
   Signs : (symbols : ℕ) → Item
   -- the word of an event over so many numbers
   Event : (place : ℕ) → (word : List ℕ) → (arguments : ℕ) → Item
+  -- that of a table
+  Entry : (place : ℕ) → (word : List ℕ) → (arguments : ℕ) → Item
+  -- the digits of a phase
+  Phase : (at : Placed) → Item
   -- a number
   Number : (at : Placed) → Item
 
@@ -33,10 +38,22 @@ number_items at ds = map Number (placed at ds)
 abbrev pub event_items : ℕ → List ℕ → List (List ℕ) → List Item
 event_items at word ds = Signs 2 ∷ Event at word (length ds) ∷ number_items (at + length word + 1) ds
 
+abbrev pub entry_items : ℕ → List ℕ → List (List ℕ) → List Item
+entry_items at word ds = Signs 2 ∷ Entry at word (length ds) ∷ number_items (at + length word + 1) ds
+
+-- what stands of a phase behind a predicate, and how many bytes that is
+abbrev pub phase_items : ℕ → Option (List ℕ) → List Item
+phase_items at None = []
+phase_items at (Some digits) = Phase (record { place = at + 1; digits = digits }) ∷ []
+
+abbrev pub phase_width : Option (List ℕ) → ℕ
+phase_width None = 0
+phase_width (Some digits) = 1 + length digits
+
 abbrev pub predicate_items : ℕ → Predicate → List (List ℕ) → List Item
-predicate_items at Att ds = Signs 1 ∷ number_items (at + 4) ds
-predicate_items at Mess ds = Signs 1 ∷ number_items (at + 5) ds
-predicate_items at Tab ds = Signs 2 ∷ number_items (at + 4) ds
+predicate_items at (Att phase) ds = Signs 1 ∷ (phase_items (at + 3) phase ++ number_items (at + 3 + phase_width phase + 1) ds)
+predicate_items at (Mess phase) ds = Signs 1 ∷ (phase_items (at + 4) phase ++ number_items (at + 4 + phase_width phase + 1) ds)
+predicate_items at (Tab word) ds = entry_items (at + 4) word ds
 predicate_items at (Ev word) ds = event_items (at + 3) word ds
 predicate_items at (Mev word) ds = event_items (at + 4) word ds
 predicate_items at Bad ds = Signs 1 ∷ number_items (at + 4) ds
@@ -61,11 +78,14 @@ clause_items at (c ∷ cs) = Begins at ∷ (facts_items (at + 2) c.hypotheses c.
 -- Number
 abbrev pub item_numbers : Item → List ℕ
 item_numbers (Number p) = no_number p
+item_numbers (Phase p) = no_number p
 item_numbers _ = []
 
--- Symbol: no event has the word
+-- Symbol: no event or table has the word, or the number is no phase past the first
 abbrev pub item_symbols : Protocol → Item → List ℕ
 item_symbols P (Event place word arguments) = place_if (is_none (event_called P word)) place
+item_symbols P (Entry place word arguments) = place_if (is_none (table_called P word)) place
+item_symbols P (Phase p) = place_if (option_map_or (λ k. not (is_later_phase P k)) (numeral p.digits) false) p.place
 item_symbols P _ = []
 
 -- Count: a clause begins that is one too many
@@ -95,6 +115,8 @@ item_orders table ts [] = []
 item_orders table ts (Begins place ∷ items) = item_orders table ts items
 item_orders table ts (Signs symbols ∷ items) = item_orders table ts items
 item_orders table ts (Event place word arguments ∷ items) = item_orders table ts items
+item_orders table ts (Entry place word arguments ∷ items) = item_orders table ts items
+item_orders table ts (Phase p ∷ items) = item_orders table ts items
 item_orders table ts (Number p ∷ items) =
     option_map_or (λ n. place_if (is_out_of_order table ts n) p.place ++ item_orders table (ts ++ (term_at table n ∷ [])) items)
     (numeral p.digits) (item_orders table ts items)
@@ -114,6 +136,8 @@ item_larges table clause all [] = []
 item_larges table clause all (Begins place ∷ items) = item_larges table 0 all items
 item_larges table clause all (Signs symbols ∷ items) = item_larges table (clause + symbols) (all + symbols) items
 item_larges table clause all (Event place word arguments ∷ items) = item_larges table clause all items
+item_larges table clause all (Entry place word arguments ∷ items) = item_larges table clause all items
+item_larges table clause all (Phase p ∷ items) = item_larges table clause all items
 item_larges table clause all (Number p ∷ items) =
     option_map_or (λ n.
     let symbols = size (term_at table n) in
@@ -121,7 +145,7 @@ item_larges table clause all (Number p ∷ items) =
     ++ item_larges table (clause + symbols) (all + symbols) items)
     (numeral p.digits) (item_larges table clause all items)
 
--- Arity, at an event: it takes another number of arguments, and at none of these does another fault stand.
+-- Arity, at an event or a table: it takes another number of arguments, and at none of these does another fault stand.
 
 abbrev pub stands_at : List ℕ → Item → Bool
 stands_at places (Number p) = list_any (λ place. place == p.place) places
@@ -132,6 +156,10 @@ item_arities P others [] = []
 item_arities P others (Event place word arguments ∷ items) =
     place_if (option_map_or (λ called. not (called.arity == arguments)) (event_called P word) false && not (list_any (stands_at others) (take arguments items))) place
     ++ item_arities P others items
+item_arities P others (Entry place word arguments ∷ items) =
+    place_if (option_map_or (λ called. not (called.arity == arguments)) (table_called P word) false && not (list_any (stands_at others) (take arguments items))) place
+    ++ item_arities P others items
+item_arities P others (Phase p ∷ items) = item_arities P others items
 item_arities P others (Begins place ∷ items) = item_arities P others items
 item_arities P others (Signs symbols ∷ items) = item_arities P others items
 item_arities P others (Number p ∷ items) = item_arities P others items

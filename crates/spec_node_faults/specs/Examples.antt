@@ -1,5 +1,5 @@
 -- Worked examples: small texts with faults at each place that a table has for them.
-use Rattle.std.specs.Prelude.{◌≡◌, ℕ, Some, List, [], ◌∷◌, map, codes}
+use Rattle.std.specs.Prelude.{◌≡◌, ℕ, None, Some, List, [], ◌∷◌, map, codes}
 use Rattle.spec_calculus.specs.Syntax.{Protocol}
 use Rattle.spec_certificate_text.specs.Loose.{Head, Applied, Tupled, Attackers}
 use Rattle.spec_node_faults.specs.Loose.{LooseNode, Predicate, Att, Mess, Mev, Bad, LooseFact, LooseClause, LooseCertificate, certificate_onto}
@@ -41,14 +41,14 @@ silent_nodes = alone (codes "c") ∷ alone (codes "v0") ∷ over Attackers (code
 
 -- c => att(1), c => att(3), c mess(4,2), att(4) => att(2), c att(2), att(4) => mess(2,4)
 abbrev pub four_clauses : List LooseClause
-four_clauses = concludes (of Att (codes "1" ∷ []))
-    ∷ concludes (of Att (codes "3" ∷ []))
-    ∷ from (of Mess (codes "4" ∷ codes "2" ∷ []) ∷ of Att (codes "4" ∷ []) ∷ []) (of Att (codes "2" ∷ []))
-    ∷ from (of Att (codes "2" ∷ []) ∷ of Att (codes "4" ∷ []) ∷ []) (of Mess (codes "2" ∷ codes "4" ∷ [])) ∷ []
+four_clauses = concludes (of (Att None) (codes "1" ∷ []))
+    ∷ concludes (of (Att None) (codes "3" ∷ []))
+    ∷ from (of (Mess None) (codes "4" ∷ codes "2" ∷ []) ∷ of (Att None) (codes "4" ∷ []) ∷ []) (of (Att None) (codes "2" ∷ []))
+    ∷ from (of (Att None) (codes "2" ∷ []) ∷ of (Att None) (codes "4" ∷ []) ∷ []) (of (Mess None) (codes "2" ∷ codes "4" ∷ [])) ∷ []
 
 -- the last clause: c att(5) => bad()
 abbrev pub last_clause : LooseClause
-last_clause = from (of Att (codes "5" ∷ []) ∷ []) (of Bad [])
+last_clause = from (of (Att None) (codes "5" ∷ []) ∷ []) (of Bad [])
 
 abbrev pub fault : ℕ → Code → Fault
 fault place code = record { place = place; code = code }
@@ -60,7 +60,7 @@ pub record Tells (P : Protocol) (c : LooseCertificate) (text : List ℕ) (place 
 
 -- `=> att(d)` for each number d
 abbrev pub got : List (List ℕ) → List LooseClause
-got numbers = map (λ d. concludes (of Att (d ∷ []))) numbers
+got numbers = map (λ d. concludes (of (Att None) (d ∷ []))) numbers
 
 -- a certificate of nodes alone, and of nodes with clauses
 abbrev pub nodes : List LooseNode → LooseCertificate

@@ -1,5 +1,5 @@
 -- The certificates of the grammar, whatever their words name, and which may be written by a table.
-use Rattle.std.specs.Prelude.{◌≡◌, ℕ, ◌≤◌, List, length}
+use Rattle.std.specs.Prelude.{◌≡◌, ℕ, ◌≤◌, IfSome, List, length}
 use Rattle.std.specs.List.{AllByRecursion}
 use Rattle.spec_calculus.specs.Bounds.{most_clauses}
 use Rattle.spec_calculus.specs.Syntax.{Protocol}
@@ -30,9 +30,9 @@ pub record IsNode (n : LooseNode) : Type 0 where
 
 -- a predicate over so many numbers
 abbrev pub IsPredicateOf : Predicate → ℕ → Type 0
-IsPredicateOf Att n = n ≡ 1
-IsPredicateOf Mess n = n ≡ 2
-IsPredicateOf Tab n = ⊥
+IsPredicateOf (Att phase) n = IfSome phase IsNumber × (n ≡ 1)
+IsPredicateOf (Mess phase) n = IfSome phase IsNumber × (n ≡ 2)
+IsPredicateOf (Tab word) n = IsWord word
 IsPredicateOf (Ev word) n = IsWord word
 IsPredicateOf (Mev word) n = IsWord word
 IsPredicateOf Bad n = Unit {0}

@@ -1,11 +1,11 @@
 -- Certificates by numbers as they stand in a text: their words and digits, and how many numbers stand where, are left open.
-use Rattle.std.specs.Prelude.{ℕ, List, [], ◌∷◌, ◌++◌, map, codes}
+use Rattle.std.specs.Prelude.{ℕ, zero, suc, Option, None, Some, List, [], ◌∷◌, ◌++◌, map, codes}
 use Rattle.std.specs.Fmt.{decimal}
 use Rattle.spec_calculus.specs.Syntax.{Protocol}
 use Rattle.spec_clauses.specs.Fact.{Fact, Clause, terms_of}
 use Rattle.spec_clauses.specs.Fact as fact
 use Rattle.spec_certificate_text.specs.Loose.{Head}
-use Rattle.spec_certificate_text.specs.Words.{event_word}
+use Rattle.spec_certificate_text.specs.Words.{event_word, table_word}
 use Rattle.spec_node_tables.specs.Nodes.{TableNode, NodeCertificate}
 use Rattle.spec_node_tables.specs.Text.{node_head, head_text, node_numbers}
 
@@ -14,11 +14,11 @@ pub record LooseNode : Type 0 where
   pub head : Head
   pub numbers : List (List ℕ)
 
--- a predicate; one of an event has the event's word; that of a table is of no text of the grammar yet
+-- a predicate; one that may have a phase has its digits, or none; one of a table or an event has the word of it
 pub data Predicate : Type 0 where
-  Att : Predicate
-  Mess : Predicate
-  Tab : Predicate
+  Att : (phase : Option (List ℕ)) → Predicate
+  Mess : (phase : Option (List ℕ)) → Predicate
+  Tab : (word : List ℕ) → Predicate
   Ev : (word : List ℕ) → Predicate
   Mev : (word : List ℕ) → Predicate
   Bad : Predicate
@@ -60,15 +60,20 @@ node_onto n rest = head_text n.head (spaced n.numbers rest)
 abbrev pub node_line : LooseNode → List ℕ → List ℕ
 node_line n rest = 110 ∷ 32 ∷ node_onto n (10 ∷ rest)
 
--- an event over numbers: without any, its word stands alone
+-- the digits of a phase behind `@`, or nothing
+abbrev pub phase_onto : Option (List ℕ) → List ℕ → List ℕ
+phase_onto None rest = rest
+phase_onto (Some digits) rest = 64 ∷ (digits ++ rest)
+
+-- an event or an entry over numbers: without any, its word stands alone
 abbrev pub event_onto : List ℕ → List (List ℕ) → List ℕ → List ℕ
 event_onto word [] rest = word ++ rest
 event_onto word (d ∷ ds) rest = word ++ (40 ∷ commas (d ∷ ds) (41 ∷ rest))
 
 abbrev pub predicate_onto : Predicate → List (List ℕ) → List ℕ → List ℕ
-predicate_onto Att ds rest = codes "att(" ++ commas ds (41 ∷ rest)
-predicate_onto Mess ds rest = codes "mess(" ++ commas ds (41 ∷ rest)
-predicate_onto Tab ds rest = codes "tab(" ++ commas ds (41 ∷ rest)
+predicate_onto (Att phase) ds rest = codes "att" ++ phase_onto phase (40 ∷ commas ds (41 ∷ rest))
+predicate_onto (Mess phase) ds rest = codes "mess" ++ phase_onto phase (40 ∷ commas ds (41 ∷ rest))
+predicate_onto (Tab word) ds rest = codes "tab(" ++ event_onto word ds (41 ∷ rest)
 predicate_onto (Ev word) ds rest = codes "ev(" ++ event_onto word ds (41 ∷ rest)
 predicate_onto (Mev word) ds rest = codes "mev(" ++ event_onto word ds (41 ∷ rest)
 predicate_onto Bad ds rest = codes "bad(" ++ commas ds (41 ∷ rest)
@@ -100,15 +105,20 @@ abbrev pub certificate_onto : LooseCertificate → List ℕ → List ℕ
 certificate_onto c rest =
     codes "cert 2\n" ++ lines node_line c.nodes (lines clause_line c.clauses (lines (row_line 114) c.rows (lines (row_line 103) c.goals (codes "end\n" ++ rest))))
 
--- A certificate by numbers, written so with the words of a protocol: phases, words of tables and constraints aren't spelled yet.
+-- A certificate by numbers, written so with the words of a protocol: constraints aren't spelled yet.
 
 abbrev pub written_node : Protocol → TableNode → LooseNode
 written_node P n = record { head = node_head P n; numbers = map decimal (node_numbers n) }
 
+-- phase 0 has no digits
+abbrev pub phase_digits : ℕ → Option (List ℕ)
+phase_digits zero = None
+phase_digits (suc k) = Some (decimal (suc k))
+
 abbrev pub predicate_of : Protocol → Fact ℕ → Predicate
-predicate_of P (fact.Att phase n) = Att
-predicate_of P (fact.Mess phase m n) = Mess
-predicate_of P (fact.Tab table ns) = Tab
+predicate_of P (fact.Att phase n) = Att (phase_digits phase)
+predicate_of P (fact.Mess phase m n) = Mess (phase_digits phase)
+predicate_of P (fact.Tab table ns) = Tab (table_word P table)
 predicate_of P (fact.Ev e ns) = Ev (event_word P e)
 predicate_of P (fact.Mev e ns) = Mev (event_word P e)
 predicate_of P (fact.Bad ns) = Bad

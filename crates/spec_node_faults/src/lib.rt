@@ -117,9 +117,9 @@ pub fn worked_sizes()
         codes "n () 13 13\nn () 14 14\nend\n")) 138 NodeLarge }
     ensures allowed { places sending 0 (nodes (c ∷ doubled)) NodeLarge ≡ [] }
     ensures clause { first_fault sending 0 (certificate (c ∷ doubled)
-        (concludes (of Mess (codes "14" ∷ codes "1" ∷ [])) ∷ [])) ≡ Some (fault 149 NodeLarge) }
+        (concludes (of (Mess None) (codes "14" ∷ codes "1" ∷ [])) ∷ [])) ≡ Some (fault 149 NodeLarge) }
     ensures behind { first_fault sending 0 (certificate (c ∷ doubled)
-        (from (of Att (codes "14" ∷ []) ∷ []) (of Bad []) ∷ [])) ≡ None }
+        (from (of (Att None) (codes "14" ∷ []) ∷ []) (of Bad []) ∷ [])) ≡ None }
 {}
 
 /// A certificate by numbers, written with the words of a protocol, has the text that the protocol gives it.

@@ -288,7 +288,7 @@ module _ (P : Protocol) (names : HasNames P) (table : List Term) where
             is_event = named.is_of;
             each = follow_all w read.numbers read.short read.through.order read.through.small read.through.together;
             wrong = differs;
-            text = word.run.text ∙ read.text cut.value.number named.has_word;
+            text = word.run.text ∙ read.text P.events cut.value.number named.has_word;
             whole = (cut.rest, word.run, found);
           }
 

@@ -1,29 +1,35 @@
 -- Facts by numbers: readers of hypotheses and of conclusions go on with the walk, and tell the first fault.
-use Rattle.std.proofs.Common.{◌≡◌, ℕ, ◌≤◌, ◌==◌, Bool, true, false, List, [], ◌∷◌, ◌++◌, length, drop, codes, refl, sym, ◌∙◌, ap, subst, arith}
+use Rattle.std.proofs.Common.{◌≡◌, ℕ, suc, ◌≤◌, ◌==◌, if◌then◌else◌, Bool, Option, Some, None, true, false, List, [], ◌∷◌, ◌++◌, length, drop, codes, refl, sym, ◌∙◌, ap, subst, arith, take, ◌+◌}
 use Rattle.std.specs.Char.{is_ascii_digit}
 use Rattle.spec_calculus.specs.Syntax.{Protocol}
 use Rattle.spec_terms.specs.Term.{Term}
-use Rattle.spec_clauses.specs.Fact.{Fact, Att, Mess, Ev, Mev, Bad}
+use Rattle.spec_clauses.specs.Fact.{Fact, Att, Mess, Tab, Ev, Mev, Bad}
 use Rattle.spec_certificate_text.specs.OfProtocol.{HasNames}
-use Rattle.spec_certificate_text.specs.Outcomes.{front, Reader, read_fixed}
-use Rattle.spec_certificate_text.specs.Facts.{Performed}
+use Rattle.spec_certificate_text.specs.Names.{CalledEvent, called_in, with_tables}
+use Rattle.spec_certificate_text.specs.Terms.{Syntax}
+use Rattle.spec_protocol_tokens.specs.Bytes.{begins_word, is_in_word}
+use Rattle.std.specs.List.{prefix_len}
+use Rattle.spec_certificate_text.specs.Outcomes.{Found, Faulty, next, front, ended, Reader, read_fixed}
+use Rattle.spec_certificate_text.specs.Facts.{Performed, read_phase}
+use Rattle.spec_certificate_text.specs.Facts as called
 use Rattle.spec_certificate_text.proofs.Parts.{other_byte}
-use Rattle.spec_reading_faults.proofs.Shared.{next_local}
 use Rattle.spec_certificate_faults.specs.Grammar.{EndsAt}
 use Rattle.spec_first_faults.specs.Kinds.{fixed, IsRun, last, further}
-use Rattle.spec_first_faults.specs.Facts.{event_goes_on}
+use Rattle.spec_first_faults.specs.Facts.{event_goes_on, phases}
 use Rattle.spec_first_faults.proofs.Tells.{Anything, mapped}
 use Rattle.spec_first_faults.proofs.Behind.{then_read}
 use Rattle.spec_first_faults.proofs.OneOf.{chosen, IsToldBy, told_by_front, told_alone, either_told}
 use Rattle.spec_first_faults.proofs.Small.{fixed_forms}
 use Rattle.spec_first_faults.proofs.Closed.{closed_by}
+use Rattle.spec_first_faults.proofs.Phases.{EndsPhase, phases_tell}
+use Rattle.spec_first_faults.proofs.Tables.{names_with_tables}
 use Rattle.spec_node_reading.specs.Kinds.{KindIn, in_state, kept, changing, behind, one_of}
 use Rattle.spec_node_reading.specs.Walked.{Walked, with_signs, table_numbers}
-use Rattle.spec_node_reading.specs.Loops.{Behind, with}
-use Rattle.spec_node_reading.specs.Facts.{arguments, events, closing, known, sent, performed, violated, hypotheses, conclusions}
-use Rattle.spec_node_reading.specs.ReadClauses.{one_term, read_terms, read_event, read_att, read_mess, read_performed, read_bad, read_hypothesis, read_conclusion}
+use Rattle.spec_node_reading.specs.Loops.{Behind, with, row_from}
+use Rattle.spec_node_reading.specs.Facts.{arguments, events, entries, closing, known, sent, stored, performed, violated, hypotheses, conclusions}
+use Rattle.spec_node_reading.specs.ReadClauses.{one_term, read_terms, read_applied, event_named, read_event, read_entry, read_att, read_mess, read_performed, read_tab, read_bad, read_hypothesis, read_conclusion}
 use Rattle.spec_node_first_faults.proofs.Alike.{shared_local}
-use Rattle.spec_node_first_faults.proofs.InState.{FormsIn, TellsIn, kept_forms, one_of_forms-in, both_forms-in, both_tell-in}
+use Rattle.spec_node_first_faults.proofs.InState.{FormsIn, TellsIn, same_tells-in, kept_forms, kept_tells, one_of_forms-in, both_forms-in, both_tell-in}
 use Rattle.spec_node_first_faults.proofs.InClosed.{closes_in, closed_thing-forms, closed_thing-in, opened_forms, opened_tells, behind_fixed-in, behind_fixed-forms, mapped_tells-in, choice_tells-in, front_tells-in}
 use Rattle.spec_node_first_faults.proofs.InMany.{behind_told-in}
 use Rattle.spec_node_first_faults.proofs.InRows.{walked_of}
@@ -46,9 +52,6 @@ digits_front bytes rest is = ap (λ bs. front bs == 41) is.text ∙ by is.run is
 module _ (P : Protocol) (names : HasNames P) (table : List Term) where
   -- The kinds.
 
-  known_forms : FormsIn (known P table) Anything
-  known_forms = opened_forms (codes "att(") (with_signs 1) (behind (table_numbers table) (closing P table)) Anything (closed_thing-forms (table_numbers table) (EndsAt is_ascii_digit) (codes ")") (number_forms P table) (λ rest. refl))
-
   abbrev second_number : KindIn Walked
   second_number = behind (table_numbers table) (closing P table)
 
@@ -58,14 +61,49 @@ module _ (P : Protocol) (names : HasNames P) (table : List Term) where
   second_forms : FormsIn second_number Anything
   second_forms = closed_thing-forms (table_numbers table) (EndsAt is_ascii_digit) (codes ")") (number_forms P table) (λ rest. refl)
 
+  -- a phase and `(`, and what stands behind them
+  abbrev in_brackets : KindIn Walked → KindIn Walked
+  in_brackets K = behind (kept (fixed (codes "("))) K
+
+  abbrev behind_phase : KindIn Walked → KindIn Walked
+  behind_phase K = behind (kept (phases P)) (in_brackets K)
+
+  ends_phase : (K : KindIn Walked) (bytes rest : List ℕ) → (in_brackets K).Text bytes rest → EndsPhase bytes
+  ends_phase K bytes rest (mid, text, more) = subst EndsPhase (sym text) (refl, refl)
+
+  phase_forms : (K : KindIn Walked) → FormsIn K Anything → FormsIn (behind_phase K) Anything
+  phase_forms K forms = both_forms-in (kept (phases P)) (in_brackets K) EndsPhase Anything (kept_forms (phases P) EndsPhase (phases_tell P).forms) (behind_fixed-forms (codes "(") K Anything forms) (ends_phase K)
+
+  known_forms : FormsIn (known P table) Anything
+  known_forms = opened_forms (codes "att") (with_signs 1) (behind_phase second_number) Anything (phase_forms second_number second_forms)
+
   comma_forms : FormsIn comma_and_number Anything
   comma_forms = behind_fixed-forms (codes ",") second_number Anything second_forms
 
   comma_ends : (bytes rest : List ℕ) → comma_and_number.Text bytes rest → EndsAt is_ascii_digit bytes
   comma_ends bytes rest (mid, text, more) = subst (EndsAt is_ascii_digit) (sym text) refl
 
+  abbrev after_number : KindIn Walked
+  after_number = behind (table_numbers table) comma_and_number
+
+  after_forms : FormsIn after_number Anything
+  after_forms = both_forms-in (table_numbers table) comma_and_number (EndsAt is_ascii_digit) Anything (number_forms P table) comma_forms comma_ends
+
   sent_forms : FormsIn (sent P table) Anything
-  sent_forms = opened_forms (codes "mess(") (with_signs 1) (behind (table_numbers table) comma_and_number) Anything (both_forms-in (table_numbers table) comma_and_number (EndsAt is_ascii_digit) Anything (number_forms P table) comma_forms comma_ends)
+  sent_forms = opened_forms (codes "mess") (with_signs 1) (behind_phase after_number) Anything (phase_forms after_number after_forms)
+
+  -- entries are the events of the protocol in which tables stand for these
+  entries_forms : FormsIn (entries P table) (EndsAt event_goes_on)
+  entries_forms = events_forms (with_tables P) (names_with_tables P names) table
+
+  abbrev closed_entries : KindIn Walked
+  closed_entries = behind (entries P table) (closing P table)
+
+  closed_entries-forms : FormsIn closed_entries Anything
+  closed_entries-forms = closed_thing-forms (entries P table) (EndsAt event_goes_on) (codes ")") entries_forms (λ rest. refl)
+
+  stored_forms : FormsIn (stored P table) Anything
+  stored_forms = opened_forms (codes "tab(") (with_signs 2) closed_entries Anything closed_entries-forms
 
   performed_forms : (word : List ℕ) → FormsIn (performed P table word) Anything
   performed_forms word = opened_forms word (with_signs 2) (behind (events P table) (closing P table)) Anything (closed_thing-forms (events P table) (EndsAt event_goes_on) (codes ")") (events_forms P names table) (λ rest. refl))
@@ -81,26 +119,51 @@ module _ (P : Protocol) (names : HasNames P) (table : List Term) where
   number_closed : {A : Type 0} (f : Behind Term → Behind A) → ((x : Behind Term) → (f x).walked ≡ x.walked) → (v : Walked) → TellsIn second_number v Anything Anything walked_of (closed_number f v)
   number_closed f stays v = closed_thing-in (table_numbers table) v (EndsAt is_ascii_digit) (codes ")") walked_of walked_of (one_term P table v) f (number_tells table v P) (number_forms P table) (λ rest. refl) stays
 
-  abbrev att_of : Behind Term → Behind (Fact Term)
-  att_of x = with (Att 0 x.value) x.walked
+  -- a phase and `(`, and the reader of what stands behind them in that phase
+  abbrev phase_then : {A : Type 0} → (ℕ → Reader (Behind A)) → Reader (Behind A)
+  phase_then m = then_read (read_phase P) (λ at k. then_read (read_fixed (codes "(")) (λ _ _. m k))
 
-  abbrev mess_of : Term → Behind Term → Behind (Fact Term)
-  mess_of t y = with (Mess 0 t y.value) y.walked
+  phase_tells : {A : Type 0} (K : KindIn Walked) (v : Walked) (m : ℕ → Reader (Behind A)) → ((k : ℕ) → TellsIn K v Anything Anything walked_of (m k)) → FormsIn K Anything → TellsIn (behind_phase K) v Anything Anything walked_of (phase_then m)
+  phase_tells K v m each forms =
+      both_tell-in (kept (phases P)) (in_brackets K) v Anything Anything EndsPhase Anything (λ (k : ℕ). v) walked_of (read_phase P) (λ at k. then_read (read_fixed (codes "(")) (λ _ _. m k))
+      (kept_tells (phases P) v Anything EndsPhase (λ (k : ℕ). v) (read_phase P) (phases_tell P) (λ bytes at place x rest e. refl))
+      (λ at k. behind_fixed-in (codes "(") v K Anything walked_of (m k) (each k) forms)
+      (kept_forms (phases P) EndsPhase (phases_tell P).forms) (behind_fixed-forms (codes "(") K Anything forms) (ends_phase K) (λ bs mid of text. tt)
+
+  abbrev att_of : ℕ → Behind Term → Behind (Fact Term)
+  att_of k x = with (Att k x.value) x.walked
+
+  abbrev mess_of : ℕ → Term → Behind Term → Behind (Fact Term)
+  mess_of k t y = with (Mess k t y.value) y.walked
+
+  abbrev att_read : Walked → ℕ → Reader (Behind (Fact Term))
+  att_read v k = closed_number (att_of k) v
 
   known_tells : (w : Walked) → TellsIn (known P table) w Anything Anything walked_of (read_att P table w)
-  known_tells w = opened_tells (codes "att(") (with_signs 1) w second_number Anything walked_of (closed_number att_of (with_signs 1 w)) (number_closed att_of (λ x. refl) (with_signs 1 w)) second_forms
+  known_tells w =
+      let v = with_signs 1 w in
+      opened_tells (codes "att") (with_signs 1) w (behind_phase second_number) Anything walked_of (phase_then (att_read v))
+      (phase_tells second_number v (att_read v) (λ k. number_closed (att_of k) (λ x. refl) v) second_forms) (phase_forms second_number second_forms)
 
-  abbrev behind_first : Behind Term → Reader (Behind (Fact Term))
-  behind_first x = then_read (read_fixed (codes ",")) (λ _ _. closed_number (mess_of x.value) x.walked)
+  abbrev behind_first : ℕ → Behind Term → Reader (Behind (Fact Term))
+  behind_first k x = then_read (read_fixed (codes ",")) (λ _ _. closed_number (mess_of k x.value) x.walked)
+
+  abbrev mess_read : Walked → ℕ → Reader (Behind (Fact Term))
+  mess_read v k = then_read (one_term P table v) (λ at x. behind_first k x)
+
+  mess_tells : (v : Walked) (k : ℕ) → TellsIn after_number v Anything Anything walked_of (mess_read v k)
+  mess_tells v k =
+      both_tell-in (table_numbers table) comma_and_number v Anything Anything (EndsAt is_ascii_digit) Anything walked_of walked_of (one_term P table v) (λ at x. behind_first k x) (number_tells table v P)
+      (λ at x. behind_fixed-in (codes ",") x.walked second_number Anything walked_of (closed_number (mess_of k x.value) x.walked) (number_closed (mess_of k x.value) (λ y. refl) x.walked) second_forms)
+      (number_forms P table) comma_forms comma_ends (λ bs mid of text. tt)
+
+  message_tells : (v : Walked) → TellsIn (behind_phase after_number) v Anything Anything walked_of (phase_then (mess_read v))
+  message_tells v = phase_tells after_number v (mess_read v) (mess_tells v) after_forms
 
   sent_tells : (w : Walked) → TellsIn (sent P table) w Anything Anything walked_of (read_mess P table w)
   sent_tells w =
       let v = with_signs 1 w in
-      opened_tells (codes "mess(") (with_signs 1) w (behind (table_numbers table) comma_and_number) Anything walked_of (then_read (one_term P table v) (λ at x. behind_first x))
-      (both_tell-in (table_numbers table) comma_and_number v Anything Anything (EndsAt is_ascii_digit) Anything walked_of walked_of (one_term P table v) (λ at x. behind_first x) (number_tells table v P)
-      (λ at x. behind_fixed-in (codes ",") x.walked second_number Anything walked_of (closed_number (mess_of x.value) x.walked) (number_closed (mess_of x.value) (λ y. refl) x.walked) second_forms)
-      (number_forms P table) comma_forms comma_ends (λ bs mid of text. tt))
-      (both_forms-in (table_numbers table) comma_and_number (EndsAt is_ascii_digit) Anything (number_forms P table) comma_forms comma_ends)
+      opened_tells (codes "mess") (with_signs 1) w (behind_phase after_number) Anything walked_of (phase_then (mess_read v)) (message_tells v) (phase_forms after_number after_forms)
 
   abbrev fact_of : (ℕ → List Term → Fact Term) → Behind Performed → Behind (Fact Term)
   fact_of fact e = with (fact e.value.event e.value.arguments) e.walked
@@ -115,6 +178,41 @@ module _ (P : Protocol) (names : HasNames P) (table : List Term) where
   performed_tells word fact w =
       opened_tells word (with_signs 2) w (behind (events P table) (closing P table)) Anything walked_of (closed_event fact (with_signs 2 w)) (event_closed fact (with_signs 2 w))
       (closed_thing-forms (events P table) (EndsAt event_goes_on) (codes ")") (events_forms P names table) (λ rest. refl))
+
+  -- Entries.
+
+  one_alike : one_term P table ≡ one_term (with_tables P) table
+  one_alike = refl
+
+  applied_alike : (w : Walked) (bytes : List ℕ) (at : ℕ) → read_applied P table w bytes at ≡ read_applied (with_tables P) table w bytes at
+  applied_alike w bytes at =
+      ap (λ (one : Walked → Reader (Behind Term)). if front bytes == 40 then next (read_fixed (codes "(") bytes at) (λ _ p r. row_from one 44 [] (codes ")") (suc (length r)) (with [] w) r p) else Found (with [] w) at bytes) one_alike
+
+  named_alike : (found : Option CalledEvent) (w : Walked) (from place : ℕ) (rest : List ℕ) → event_named P table found w from place rest ≡ event_named (with_tables P) table found w from place rest
+  named_alike None w from place rest = refl
+  named_alike (Some named) w from place rest = ap (λ o. next o (λ x p r. next (called.performed from named x.value p r) (λ e p r. Found (with e x.walked) p r))) (applied_alike w rest place)
+
+  entry_as : (w : Walked) (bytes : List ℕ) (at : ℕ) → read_entry P table w bytes at ≡ read_event (with_tables P) table w bytes at
+  entry_as w bytes at =
+      let long = prefix_len is_in_word bytes in
+      let rest = drop long bytes in
+      ap (λ o. if begins_word (front bytes) then ended (at + long) rest o else Faulty at Syntax) (named_alike (called_in P.tables (take long bytes)) w at (at + long) rest)
+
+  entries_tell : (w : Walked) → TellsIn (entries P table) w Anything (EndsAt event_goes_on) walked_of (read_entry P table w)
+  entries_tell w =
+      same_tells-in (entries P table) w Anything (EndsAt event_goes_on) walked_of (read_entry P table w) (read_event (with_tables P) table w) (entry_as w) (events_tell (with_tables P) (names_with_tables P names) table w)
+
+  abbrev as_tab : ℕ → List Term → Fact Term
+  as_tab n ts = Tab n ts
+
+  abbrev closed_entry : Walked → Reader (Behind (Fact Term))
+  closed_entry v = then_read (read_entry P table v) (λ at e. closed_by (codes ")") (fact_of as_tab e))
+
+  entry_closed : (v : Walked) → TellsIn closed_entries v Anything Anything walked_of (closed_entry v)
+  entry_closed v = closed_thing-in (entries P table) v (EndsAt event_goes_on) (codes ")") walked_of walked_of (read_entry P table v) (fact_of as_tab) (entries_tell v) entries_forms (λ rest. refl) (λ x. refl)
+
+  stored_tells : (w : Walked) → TellsIn (stored P table) w Anything Anything walked_of (read_tab P table w)
+  stored_tells w = opened_tells (codes "tab(") (with_signs 2) w closed_entries Anything walked_of (closed_entry (with_signs 2 w)) (entry_closed (with_signs 2 w)) closed_entries-forms
 
   arguments_front : (bytes rest : List ℕ) → (arguments P table).Text bytes rest → (front bytes == 41) ≡ false
   arguments_front bytes rest (last (mid, one, text)) = digits_front bytes mid one
@@ -141,9 +239,6 @@ module _ (P : Protocol) (names : HasNames P) (table : List Term) where
   told_fact : (word : List ℕ) (signs : ℕ) (L : KindIn Walked) (w : Walked) (test : List ℕ → Bool) (is : Bool) → ((rest : List ℕ) → test (word ++ rest) ≡ is) → IsToldBy (in_state (behind (changing word (with_signs signs)) L) w) test is
   told_fact word signs L w test is told = behind_told-in (changing word (with_signs signs)) L w test is (λ bytes rest t leads. leads.0) (told_alone word test is told)
 
-  abbrev after_number : KindIn Walked
-  after_number = behind (table_numbers table) comma_and_number
-
   abbrev closed_events : KindIn Walked
   closed_events = behind (events P table) (closing P table)
 
@@ -153,11 +248,14 @@ module _ (P : Protocol) (names : HasNames P) (table : List Term) where
   abbrev of_mev : (w : Walked) (test : List ℕ → Bool) (is : Bool) → ((rest : List ℕ) → test (codes "mev(" ++ rest) ≡ is) → IsToldBy (in_state (performed P table (codes "mev(")) w) test is
   of_mev w test is told = told_fact (codes "mev(") 2 closed_events w test is told
 
-  abbrev of_att : (w : Walked) (test : List ℕ → Bool) (is : Bool) → ((rest : List ℕ) → test (codes "att(" ++ rest) ≡ is) → IsToldBy (in_state (known P table) w) test is
-  of_att w test is told = told_fact (codes "att(") 1 second_number w test is told
+  abbrev of_att : (w : Walked) (test : List ℕ → Bool) (is : Bool) → ((rest : List ℕ) → test (codes "att" ++ rest) ≡ is) → IsToldBy (in_state (known P table) w) test is
+  of_att w test is told = told_fact (codes "att") 1 (behind_phase second_number) w test is told
 
-  abbrev of_mess : (w : Walked) (test : List ℕ → Bool) (is : Bool) → ((rest : List ℕ) → test (codes "mess(" ++ rest) ≡ is) → IsToldBy (in_state (sent P table) w) test is
-  of_mess w test is told = told_fact (codes "mess(") 1 after_number w test is told
+  abbrev of_tab : (w : Walked) (test : List ℕ → Bool) (is : Bool) → ((rest : List ℕ) → test (codes "tab(" ++ rest) ≡ is) → IsToldBy (in_state (stored P table) w) test is
+  of_tab w test is told = told_fact (codes "tab(") 2 closed_entries w test is told
+
+  abbrev of_mess : (w : Walked) (test : List ℕ → Bool) (is : Bool) → ((rest : List ℕ) → test (codes "mess" ++ rest) ≡ is) → IsToldBy (in_state (sent P table) w) test is
+  of_mess w test is told = told_fact (codes "mess") 1 (behind_phase after_number) w test is told
 
   abbrev of_bad : (w : Walked) (test : List ℕ → Bool) (is : Bool) → ((rest : List ℕ) → test (codes "bad(" ++ rest) ≡ is) → IsToldBy (in_state (violated P table) w) test is
   of_bad w test is told = told_fact (codes "bad(") 1 (one_of (closing P table) (arguments P table)) w test is told
@@ -176,54 +274,68 @@ module _ (P : Protocol) (names : HasNames P) (table : List Term) where
 
   mev_or_mess-tell : (w : Walked) → TellsIn (one_of mev (sent P table)) w Anything Anything walked_of (chosen third_is (read_performed P table (codes "mev(") as_mev w) (read_mess P table w))
   mev_or_mess-tell w =
-      let v = with_signs 1 w in
-      let first = number_tells table v P in
       choice_tells-in mev (sent P table) w Anything third_is walked_of (read_performed P table (codes "mev(") as_mev w) (read_mess P table w) (performed_tells (codes "mev(") as_mev w) (sent_tells w) (performed_forms (codes "mev(")) sent_forms
       (of_mev w third_is true (λ rest. refl)) (of_mess w third_is false (λ rest. refl))
-      (shared_local (codes "me") (codes "v(") (codes "ss(") (λ b. b == 118) (closed_event as_mev (with_signs 2 w)) (then_read (one_term P table v) (λ at x. behind_first x)) (event_closed as_mev (with_signs 2 w)).tells.local
-      (next_local (one_term P table v) (λ at x. behind_first x) first.tells.local
-      (λ at x. (behind_fixed-in (codes ",") x.walked second_number Anything walked_of (closed_number (mess_of x.value) x.walked) (number_closed (mess_of x.value) (λ y. refl) x.walked) second_forms).tells.local)))
+      (shared_local (codes "me") (codes "v(") (codes "ss") (λ b. b == 118) (closed_event as_mev (with_signs 2 w)) (phase_then (mess_read (with_signs 1 w))) (event_closed as_mev (with_signs 2 w)).tells.local (message_tells (with_signs 1 w)).tells.local)
 
-  ev_or_att-tell : (w : Walked) → TellsIn (one_of ev (known P table)) w Anything Anything walked_of (chosen (λ bs. front bs == 101) (read_performed P table (codes "ev(") as_ev w) (read_att P table w))
+  -- an entry, or what the attacker knows
+  abbrev tab_or : KindIn Walked
+  tab_or = one_of (stored P table) (known P table)
+
+  abbrev read_tab-or : Walked → Reader (Behind (Fact Term))
+  read_tab-or w = chosen (λ bs. front bs == 116) (read_tab P table w) (read_att P table w)
+
+  tab_or-forms : FormsIn tab_or Anything
+  tab_or-forms = one_of_forms-in (stored P table) (known P table) Anything stored_forms known_forms
+
+  told_tab-or : (w : Walked) (test : List ℕ → Bool) (is : Bool) → ((rest : List ℕ) → test (codes "tab(" ++ rest) ≡ is) → ((rest : List ℕ) → test (codes "att" ++ rest) ≡ is) → IsToldBy (in_state tab_or w) test is
+  told_tab-or w test is tab att = either_told (in_state (stored P table) w) (in_state (known P table) w) test is (of_tab w test is tab) (of_att w test is att)
+
+  tab_or-tell : (w : Walked) → TellsIn tab_or w Anything Anything walked_of (read_tab-or w)
+  tab_or-tell w =
+      let is_t = λ (bs : List ℕ). front bs == 116 in
+      front_tells-in (stored P table) (known P table) w Anything 116 walked_of (read_tab P table w) (read_att P table w) (stored_tells w) (known_tells w) stored_forms known_forms (of_tab w is_t true (λ rest. refl)) (of_att w is_t false (λ rest. refl))
+
+  ev_or_att-tell : (w : Walked) → TellsIn (one_of ev tab_or) w Anything Anything walked_of (chosen (λ bs. front bs == 101) (read_performed P table (codes "ev(") as_ev w) (read_tab-or w))
   ev_or_att-tell w =
       let is_e = λ (bs : List ℕ). front bs == 101 in
-      front_tells-in ev (known P table) w Anything 101 walked_of (read_performed P table (codes "ev(") as_ev w) (read_att P table w) (performed_tells (codes "ev(") as_ev w) (known_tells w) (performed_forms (codes "ev(")) known_forms
-      (of_ev w is_e true (λ rest. refl)) (of_att w is_e false (λ rest. refl))
+      front_tells-in ev tab_or w Anything 101 walked_of (read_performed P table (codes "ev(") as_ev w) (read_tab-or w) (performed_tells (codes "ev(") as_ev w) (tab_or-tell w) (performed_forms (codes "ev(")) tab_or-forms
+      (of_ev w is_e true (λ rest. refl)) (told_tab-or w is_e false (λ rest. refl) (λ rest. refl))
 
   abbrev with_m : KindIn Walked
   with_m = one_of mev (sent P table)
 
   abbrev without_m : KindIn Walked
-  without_m = one_of ev (known P table)
+  without_m = one_of ev tab_or
 
   pub hypotheses_forms : FormsIn (hypotheses P table) Anything
-  hypotheses_forms = one_of_forms-in with_m without_m Anything (one_of_forms-in mev (sent P table) Anything (performed_forms (codes "mev(")) sent_forms) (one_of_forms-in ev (known P table) Anything (performed_forms (codes "ev(")) known_forms)
+  hypotheses_forms = one_of_forms-in with_m without_m Anything (one_of_forms-in mev (sent P table) Anything (performed_forms (codes "mev(")) sent_forms) (one_of_forms-in ev tab_or Anything (performed_forms (codes "ev(")) tab_or-forms)
 
   -- a test of the first byte that is so of both, and one that is so of neither
   told_with : (w : Walked) (test : ℕ → Bool) (is : Bool) → test 109 ≡ is → IsToldBy (in_state with_m w) (λ bs. test (front bs)) is
   told_with w test is told = either_told (in_state mev w) (in_state (sent P table) w) (λ bs. test (front bs)) is (of_mev w (λ bs. test (front bs)) is (λ rest. told)) (of_mess w (λ bs. test (front bs)) is (λ rest. told))
 
-  told_without : (w : Walked) (test : ℕ → Bool) (is : Bool) → test 101 ≡ is → test 97 ≡ is → IsToldBy (in_state without_m w) (λ bs. test (front bs)) is
-  told_without w test is e a = either_told (in_state ev w) (in_state (known P table) w) (λ bs. test (front bs)) is (of_ev w (λ bs. test (front bs)) is (λ rest. e)) (of_att w (λ bs. test (front bs)) is (λ rest. a))
+  told_without : (w : Walked) (test : ℕ → Bool) (is : Bool) → test 101 ≡ is → test 116 ≡ is → test 97 ≡ is → IsToldBy (in_state without_m w) (λ bs. test (front bs)) is
+  told_without w test is e t a = either_told (in_state ev w) (in_state tab_or w) (λ bs. test (front bs)) is (of_ev w (λ bs. test (front bs)) is (λ rest. e)) (told_tab-or w (λ bs. test (front bs)) is (λ rest. t) (λ rest. a))
 
   pub hypotheses_tell : (w : Walked) → TellsIn (hypotheses P table) w Anything Anything walked_of (read_hypothesis P table w)
   hypotheses_tell w =
-      front_tells-in with_m without_m w Anything 109 walked_of (chosen third_is (read_performed P table (codes "mev(") as_mev w) (read_mess P table w)) (chosen (λ bs. front bs == 101) (read_performed P table (codes "ev(") as_ev w) (read_att P table w)) (mev_or_mess-tell w) (ev_or_att-tell w)
-      (one_of_forms-in mev (sent P table) Anything (performed_forms (codes "mev(")) sent_forms) (one_of_forms-in ev (known P table) Anything (performed_forms (codes "ev(")) known_forms)
-      (told_with w (λ b. b == 109) true refl) (told_without w (λ b. b == 109) false refl refl)
+      front_tells-in with_m without_m w Anything 109 walked_of (chosen third_is (read_performed P table (codes "mev(") as_mev w) (read_mess P table w)) (chosen (λ bs. front bs == 101) (read_performed P table (codes "ev(") as_ev w) (read_tab-or w)) (mev_or_mess-tell w) (ev_or_att-tell w)
+      (one_of_forms-in mev (sent P table) Anything (performed_forms (codes "mev(")) sent_forms) (one_of_forms-in ev tab_or Anything (performed_forms (codes "ev(")) tab_or-forms)
+      (told_with w (λ b. b == 109) true refl) (told_without w (λ b. b == 109) false refl refl refl)
 
   -- no hypothesis begins as ` => ` alone does
   pub hypothesis_front : (w : Walked) → IsToldBy (in_state (hypotheses P table) w) (λ bs. front bs == 61) false
-  hypothesis_front w = either_told (in_state with_m w) (in_state without_m w) (λ bs. front bs == 61) false (told_with w (λ b. b == 61) false refl) (told_without w (λ b. b == 61) false refl refl)
+  hypothesis_front w = either_told (in_state with_m w) (in_state without_m w) (λ bs. front bs == 61) false (told_with w (λ b. b == 61) false refl) (told_without w (λ b. b == 61) false refl refl refl)
 
   abbrev bad_or : KindIn Walked
-  bad_or = one_of (violated P table) (known P table)
+  bad_or = one_of (violated P table) tab_or
 
   abbrev ev_or : KindIn Walked
   ev_or = one_of ev bad_or
 
   bad_or-forms : FormsIn bad_or Anything
-  bad_or-forms = one_of_forms-in (violated P table) (known P table) Anything violated_forms known_forms
+  bad_or-forms = one_of_forms-in (violated P table) tab_or Anything violated_forms tab_or-forms
 
   ev_or-forms : FormsIn ev_or Anything
   ev_or-forms = one_of_forms-in ev bad_or Anything (performed_forms (codes "ev(")) bad_or-forms
@@ -236,12 +348,12 @@ module _ (P : Protocol) (names : HasNames P) (table : List Term) where
       let is_m = λ (bs : List ℕ). front bs == 109 in
       let is_e = λ (bs : List ℕ). front bs == 101 in
       let is_b = λ (bs : List ℕ). front bs == 98 in
-      let bad = chosen is_b (read_bad P table w) (read_att P table w) in
+      let bad = chosen is_b (read_bad P table w) (read_tab-or w) in
       let ev_read = chosen is_e (read_performed P table (codes "ev(") as_ev w) bad in
       front_tells-in (sent P table) ev_or w Anything 109 walked_of (read_mess P table w) ev_read (sent_tells w)
       (front_tells-in ev bad_or w Anything 101 walked_of (read_performed P table (codes "ev(") as_ev w) bad (performed_tells (codes "ev(") as_ev w)
-      (front_tells-in (violated P table) (known P table) w Anything 98 walked_of (read_bad P table w) (read_att P table w) (violated_tells w) (known_tells w) violated_forms known_forms (of_bad w is_b true (λ rest. refl)) (of_att w is_b false (λ rest. refl)))
+      (front_tells-in (violated P table) tab_or w Anything 98 walked_of (read_bad P table w) (read_tab-or w) (violated_tells w) (tab_or-tell w) violated_forms tab_or-forms (of_bad w is_b true (λ rest. refl)) (told_tab-or w is_b false (λ rest. refl) (λ rest. refl)))
       (performed_forms (codes "ev(")) bad_or-forms (of_ev w is_e true (λ rest. refl))
-      (either_told (in_state (violated P table) w) (in_state (known P table) w) is_e false (of_bad w is_e false (λ rest. refl)) (of_att w is_e false (λ rest. refl))))
+      (either_told (in_state (violated P table) w) (in_state tab_or w) is_e false (of_bad w is_e false (λ rest. refl)) (told_tab-or w is_e false (λ rest. refl) (λ rest. refl))))
       sent_forms ev_or-forms (of_mess w is_m true (λ rest. refl))
-      (either_told (in_state ev w) (in_state bad_or w) is_m false (of_ev w is_m false (λ rest. refl)) (either_told (in_state (violated P table) w) (in_state (known P table) w) is_m false (of_bad w is_m false (λ rest. refl)) (of_att w is_m false (λ rest. refl))))
+      (either_told (in_state ev w) (in_state bad_or w) is_m false (of_ev w is_m false (λ rest. refl)) (either_told (in_state (violated P table) w) (in_state tab_or w) is_m false (of_bad w is_m false (λ rest. refl)) (told_tab-or w is_m false (λ rest. refl) (λ rest. refl))))

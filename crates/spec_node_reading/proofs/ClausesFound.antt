@@ -1,7 +1,7 @@
 -- The texts of clauses by numbers are read, where the walk may go through their numbers.
 use Rattle.std.proofs.Common.{◌≡◌, ℕ, zero, suc, ◌+◌, ◌≤◌, ◌==◌, if◌then◌else◌, false, List, [], ◌∷◌, ◌++◌, map, length, codes, refl, sym, ◌∙◌, subst, arith, append_assoc, length-append}
 use Rattle.std.proofs.lemmas.List.{append-nil}
-use Rattle.spec_calculus.specs.Syntax.{Protocol}
+use Rattle.spec_calculus.specs.Syntax.{Declared, Protocol}
 use Rattle.spec_terms.specs.Term.{Term}
 use Rattle.std.specs.Fmt.{decimal}
 use Rattle.spec_clauses.specs.Fact.{Fact, Att, Mess, Tab, Ev, Mev, Bad, Clause, map_fact, map_clause}
@@ -10,8 +10,9 @@ use Rattle.spec_certificate_text.specs.Terms.{Count}
 use Rattle.spec_certificate_text.specs.Outcomes.{Outcome, Found, Faulty, next, front, read_fixed}
 use Rattle.spec_certificate_text.proofs.Parts.{Finds, joined, when_false, fixed_found}
 use Rattle.spec_node_tables.specs.Nodes.{term_at}
-use Rattle.spec_certificate_text.specs.Words.{event_word}
-use Rattle.spec_node_tables.specs.Text.{number_text, later_terms, terms_text, event_over, later_hypotheses, hypotheses_over, fact_over, clause_over, clause_lines_over}
+use Rattle.spec_certificate_text.specs.Words.{declared_word}
+use Rattle.spec_certificate_text.specs.Text.{phase_text}
+use Rattle.spec_node_tables.specs.Text.{number_text, later_terms, terms_text, call_over, later_hypotheses, hypotheses_over, fact_over, clause_over, clause_lines_over}
 use Rattle.spec_node_tables.specs.OfProtocol.{HasPredicate}
 use Rattle.spec_node_faults.specs.Grammar.{MayBeHypothesis, MayBeConclusion}
 use Rattle.spec_node_reading.specs.Walked.{Walked, next_clause}
@@ -81,17 +82,22 @@ module _ (P : Protocol) (names : HasNames P) (table : List Term) where
   terms_long [] k = omega arith
   terms_long (n ∷ ns) k = let more = later_terms_long ns k in omega (arith, more, length-append (decimal n) (later_terms number_text P ns k))
 
-  event_long : (e : ℕ) (ns k : List ℕ) → length k ≤ length (event_over number_text P e ns k)
-  event_long e [] k = omega (arith, length-append (event_word P e) k)
-  event_long e (n ∷ ns) k =
-      let more = terms_long (n ∷ ns) (41 ∷ k) in omega (arith, more, length-append (event_word P e) (40 ∷ terms_text number_text P (n ∷ ns) (41 ∷ k)))
+  call_long : (ds : List Declared) (e : ℕ) (ns k : List ℕ) → length k ≤ length (call_over number_text P ds e ns k)
+  call_long ds e [] k = omega (arith, length-append (declared_word ds e) k)
+  call_long ds e (n ∷ ns) k =
+      let more = terms_long (n ∷ ns) (41 ∷ k) in omega (arith, more, length-append (declared_word ds e) (40 ∷ terms_text number_text P (n ∷ ns) (41 ∷ k)))
+
+  phase_long : (phase : ℕ) (k : List ℕ) → length k ≤ length (phase_text phase k)
+  phase_long zero k = omega arith
+  phase_long (suc n) k = omega (arith, length-append (decimal (suc n)) k)
 
   fact_long : (g : Fact ℕ) (k : List ℕ) → length k + 1 ≤ length (fact_over number_text P g k)
-  fact_long (Att phase n) k = omega (arith, length-append (decimal n) (41 ∷ k))
-  fact_long (Mess phase m n) k = omega (arith, length-append (decimal m) (44 ∷ (decimal n ++ 41 ∷ k)), length-append (decimal n) (41 ∷ k))
-  fact_long (Tab n ns) k = let more = terms_long ns (41 ∷ k) in omega (arith, more)
-  fact_long (Ev e ns) k = let more = event_long e ns (41 ∷ k) in omega (arith, more)
-  fact_long (Mev e ns) k = let more = event_long e ns (41 ∷ k) in omega (arith, more)
+  fact_long (Att phase n) k = let more = phase_long phase (40 ∷ (decimal n ++ 41 ∷ k)) in omega (arith, more, length-append (decimal n) (41 ∷ k))
+  fact_long (Mess phase m n) k =
+      let more = phase_long phase (40 ∷ (decimal m ++ 44 ∷ (decimal n ++ 41 ∷ k))) in omega (arith, more, length-append (decimal m) (44 ∷ (decimal n ++ 41 ∷ k)), length-append (decimal n) (41 ∷ k))
+  fact_long (Tab n ns) k = let more = call_long P.tables n ns (41 ∷ k) in omega (arith, more)
+  fact_long (Ev e ns) k = let more = call_long P.events e ns (41 ∷ k) in omega (arith, more)
+  fact_long (Mev e ns) k = let more = call_long P.events e ns (41 ∷ k) in omega (arith, more)
   fact_long (Bad ns) k = let more = terms_long ns (41 ∷ k) in omega (arith, more)
 
   later_long : (gs : List (Fact ℕ)) (k : List ℕ) → length gs ≤ length (later_hypotheses number_text P gs k)

@@ -9,30 +9,31 @@ use Rattle.std.proofs.lemmas.Fmt.{decimal_nonempty}
 use Rattle.std.proofs.lemmas.List.{length-map}
 use Rattle.spec_trees.specs.Tree.{size}
 use Rattle.spec_calculus.specs.Bounds.{most_symbols}
-use Rattle.spec_calculus.specs.Syntax.{Protocol}
+use Rattle.spec_calculus.specs.Syntax.{Declared, Protocol}
 use Rattle.spec_protocol_tokens.specs.Bytes.{begins_word, is_in_word}
 use Rattle.spec_terms.specs.Term.{Term}
 use Rattle.spec_clauses.specs.Fact.{Fact, Att, Mess, Tab, Ev, Mev, Bad, terms_of, map_fact}
-use Rattle.spec_certificate_text.specs.Words.{event_word}
+use Rattle.spec_certificate_text.specs.Words.{declared_word}
 use Rattle.spec_certificate_text.specs.Spelled.{IsWord, Stops}
-use Rattle.spec_certificate_text.specs.OfProtocol.{IsShort, IsEvent, HasNames}
-use Rattle.spec_certificate_text.proofs.Names.{decimal_digits, event_word_is_word}
+use Rattle.spec_certificate_text.specs.OfProtocol.{IsShort, IsEvent, IsTable, IsPhase, HasNames}
+use Rattle.spec_certificate_text.proofs.Names.{decimal_digits, event_word_is_word, table_word_is_word}
 use Rattle.spec_certificate_text.proofs.Runs.{both_left}
-use Rattle.spec_certificate_text.specs.Names.{CalledEvent, event_called}
+use Rattle.spec_certificate_text.specs.Names.{CalledEvent, called_in}
 use Rattle.spec_certificate_text.specs.Terms.{Syntax, Arity, NodeOrder, NodeLarge}
 use Rattle.spec_certificate_text.specs.Outcomes.{Outcome, Found, Faulty, next, front, ended, read_fixed, read_number}
 use Rattle.spec_certificate_text.specs.Facts.{Performed, performed}
 use Rattle.spec_certificate_text.proofs.Parts.{Finds, joined, when_true, when_false, other_byte, same_byte, fixed_found, run_stops, number_found}
-use Rattle.spec_certificate_text.proofs.Called.{event_word_called}
+use Rattle.spec_certificate_text.proofs.FactsFound.{phase_first}
+use Rattle.spec_certificate_text.proofs.Called.{event_word_called, table_word_called}
 use Rattle.spec_node_tables.specs.Nodes.{term_at}
-use Rattle.spec_node_tables.specs.Text.{number_text, later_terms, terms_text, event_over, fact_over}
+use Rattle.spec_node_tables.specs.Text.{number_text, later_terms, terms_text, call_over, event_over, fact_over}
 use Rattle.spec_node_tables.specs.OfProtocol.{HasPredicate}
 use Rattle.spec_node_tables.specs.Large.{most_certificate_symbols, is_over}
 use Rattle.spec_node_faults.specs.Clauses.{is_out_of_order}
 use Rattle.spec_node_faults.specs.Grammar.{MayBeHypothesis, MayBeConclusion}
 use Rattle.spec_node_reading.specs.Walked.{Walked, with_signs, with_term, MayFollow, MayFollowAll}
 use Rattle.spec_node_reading.specs.Loops.{Behind, with, row_from}
-use Rattle.spec_node_reading.specs.ReadClauses.{judged_number, one_term, read_terms, read_applied, event_named, read_event, read_att, read_mess, read_performed, read_bad, read_hypothesis, read_conclusion}
+use Rattle.spec_node_reading.specs.ReadClauses.{judged_number, one_term, read_terms, read_applied, event_named, read_call, read_event, read_entry, read_att, read_mess, read_called, read_performed, read_tab, read_bad, read_hypothesis, read_conclusion}
 
 module _ (P : Protocol) (names : HasNames P) (table : List Term) where
   abbrev pub past_all : Walked → List ℕ → Walked
@@ -94,20 +95,20 @@ module _ (P : Protocol) (names : HasNames P) (table : List Term) where
   pub terms_found : (w : Walked) (n : ℕ) (ns : List ℕ) (rest : List ℕ) (at : ℕ) → MayFollowAll table w (n ∷ ns) → Finds (read_terms P table w (terms_text number_text P (n ∷ ns) (41 ∷ rest)) at) (with (map (term_at table) (n ∷ ns)) (past_all w (n ∷ ns))) rest
   terms_found w n ns rest at may = let long = row_long n ns (41 ∷ rest) in row_found (suc (length (terms_text number_text P (n ∷ ns) (41 ∷ rest)))) [] w n ns rest at (omega (arith, long)) may
 
-  -- Events.
+  -- Events and entries.
 
   word_front : (w rest : List ℕ) → IsWord w → begins_word (front (w ++ rest)) ≡ true
   word_front [] rest is = absurd (let never : false ≡ true = is.begins in cc)
   word_front (b ∷ w) rest is = is.begins
 
-  -- what stands behind the word of an event
+  -- what stands behind the word of an event or a table
   abbrev applied_onto : List ℕ → List ℕ → List ℕ
   applied_onto [] rest = rest
   applied_onto (n ∷ ns) rest = 40 ∷ terms_text number_text P (n ∷ ns) (41 ∷ rest)
 
-  event_parts : (e : ℕ) (ns rest : List ℕ) → event_over number_text P e ns rest ≡ event_word P e ++ applied_onto ns rest
-  event_parts e [] rest = refl
-  event_parts e (n ∷ ns) rest = refl
+  call_parts : (ds : List Declared) (e : ℕ) (ns rest : List ℕ) → call_over number_text P ds e ns rest ≡ declared_word ds e ++ applied_onto ns rest
+  call_parts ds e [] rest = refl
+  call_parts ds e (n ∷ ns) rest = refl
 
   applied_found : (w : Walked) (ns rest : List ℕ) (at : ℕ) → MayFollowAll table w ns → Finds (read_applied P table w (applied_onto ns (41 ∷ rest)) at) (with (map (term_at table) ns) (past_all w ns)) (41 ∷ rest)
   applied_found w [] rest at may = record { place = at; is = refl }
@@ -125,13 +126,12 @@ module _ (P : Protocol) (names : HasNames P) (table : List Term) where
   applied_goes_on [] rest place o = refl
   applied_goes_on (n ∷ ns) rest place o = refl
 
-  event_found : (w : Walked) (e : ℕ) (ns : List ℕ) (rest : List ℕ) (at : ℕ) → IsEvent P e (length ns) → MayFollowAll table w ns
-      → Finds (read_event P table w (event_over number_text P e ns (41 ∷ rest)) at) (with (record { event = e; arguments = map (term_at table) ns }) (past_all w ns)) (41 ∷ rest)
-  event_found w e ns rest at is may =
-      let word = event_word P e in
+  call_found : (ds : List Declared) (w : Walked) (e : ℕ) (ns : List ℕ) (rest : List ℕ) (at : ℕ) → IsWord (declared_word ds e) → called_in ds (declared_word ds e) ≡ Some (record { number = e; arity = length ns }) → MayFollowAll table w ns
+      → Finds (read_call P table ds w (call_over number_text P ds e ns (41 ∷ rest)) at) (with (record { event = e; arguments = map (term_at table) ns }) (past_all w ns)) (41 ∷ rest)
+  call_found ds w e ns rest at is_word known may =
+      let word = declared_word ds e in
       let k = applied_onto ns (41 ∷ rest) in
       let bytes = word ++ k in
-      let is_word = event_word_is_word P e (length ns) names is in
       let called : CalledEvent = record { number = e; arity = length ns } in
       let made : Performed = record { event = e; arguments = map (term_at table) ns } in
       let v = past_all w ns in
@@ -144,13 +144,21 @@ module _ (P : Protocol) (names : HasNames P) (table : List Term) where
       joined (read_applied P table w k (at + long)) (λ x p r. next (performed at called x.value p r) (λ f p r. Found (with f x.walked) p r)) (with (map (term_at table) ns) v) (41 ∷ rest) (with made v) (41 ∷ rest) (applied_found w ns rest (at + long) may)
       (λ p. joined (performed at called (map (term_at table) ns) p (41 ∷ rest)) (λ f p r. Found (with f v) p r) made (41 ∷ rest) (with made v) (41 ∷ rest)
       (when_true (length (map (term_at table) ns) == length ns) (Found made p (41 ∷ rest)) (Faulty at Arity) made (41 ∷ rest) many record { place = p; is = refl }) (λ q. record { place = q; is = refl })) in
-      let read : ended (at + long) (drop long bytes) (event_named P table (event_called P (take long bytes)) w at (at + long) (drop long bytes)) ≡ event_named P table (Some called) w at (at + long) k =
-      ap (λ bs. ended (at + long) bs (event_named P table (event_called P (take long bytes)) w at (at + long) bs)) later
-      ∙ (applied_goes_on ns rest (at + long) (event_named P table (event_called P (take long bytes)) w at (at + long) k)
-      ∙ (ap (λ o. event_named P table (event_called P o) w at (at + long) k) first ∙ ap (λ o. event_named P table o w at (at + long) k) (event_word_called P names e (length ns) is))) in
-      let whole : Finds (read_event P table w bytes at) (with made v) (41 ∷ rest) =
-      when_true (begins_word (front bytes)) (ended (at + long) (drop long bytes) (event_named P table (event_called P (take long bytes)) w at (at + long) (drop long bytes))) (Faulty at Syntax) (with made v) (41 ∷ rest) (word_front word k is_word) record { place = named.place; is = read ∙ named.is } in
-      subst (λ bs. Finds (read_event P table w bs at) (with made v) (41 ∷ rest)) (sym (event_parts e ns (41 ∷ rest))) whole
+      let read : ended (at + long) (drop long bytes) (event_named P table (called_in ds (take long bytes)) w at (at + long) (drop long bytes)) ≡ event_named P table (Some called) w at (at + long) k =
+      ap (λ bs. ended (at + long) bs (event_named P table (called_in ds (take long bytes)) w at (at + long) bs)) later
+      ∙ (applied_goes_on ns rest (at + long) (event_named P table (called_in ds (take long bytes)) w at (at + long) k)
+      ∙ (ap (λ o. event_named P table (called_in ds o) w at (at + long) k) first ∙ ap (λ o. event_named P table o w at (at + long) k) known)) in
+      let whole : Finds (read_call P table ds w bytes at) (with made v) (41 ∷ rest) =
+      when_true (begins_word (front bytes)) (ended (at + long) (drop long bytes) (event_named P table (called_in ds (take long bytes)) w at (at + long) (drop long bytes))) (Faulty at Syntax) (with made v) (41 ∷ rest) (word_front word k is_word) record { place = named.place; is = read ∙ named.is } in
+      subst (λ bs. Finds (read_call P table ds w bs at) (with made v) (41 ∷ rest)) (sym (call_parts ds e ns (41 ∷ rest))) whole
+
+  event_found : (w : Walked) (e : ℕ) (ns : List ℕ) (rest : List ℕ) (at : ℕ) → IsEvent P e (length ns) → MayFollowAll table w ns
+      → Finds (read_event P table w (event_over number_text P e ns (41 ∷ rest)) at) (with (record { event = e; arguments = map (term_at table) ns }) (past_all w ns)) (41 ∷ rest)
+  event_found w e ns rest at is may = call_found P.events w e ns rest at (event_word_is_word P e (length ns) names is) (event_word_called P names e (length ns) is) may
+
+  entry_found : (w : Walked) (n : ℕ) (ns : List ℕ) (rest : List ℕ) (at : ℕ) → IsTable P n (length ns) → MayFollowAll table w ns
+      → Finds (read_entry P table w (call_over number_text P P.tables n ns (41 ∷ rest)) at) (with (record { event = n; arguments = map (term_at table) ns }) (past_all w ns)) (41 ∷ rest)
+  entry_found w n ns rest at is may = call_found P.tables w n ns rest at (table_word_is_word P n (length ns) names is) (table_word_called P names n (length ns) is) may
 
   -- Facts.
 
@@ -173,17 +181,17 @@ module _ (P : Protocol) (names : HasNames P) (table : List Term) where
   abbrev pub read_as : Walked → Fact ℕ → Behind (Fact Term)
   read_as w f = with (map_fact (term_at table) f) (past_fact w f)
 
-  att_found : (w : Walked) (n : ℕ) (rest : List ℕ) (at : ℕ) → MayGo w (Att 0 n) → Finds (read_att P table w (fact_over number_text P (Att 0 n) rest) at) (read_as w (Att 0 n)) rest
-  att_found w n rest at may =
+  att_found : (w : Walked) (phase n : ℕ) (rest : List ℕ) (at : ℕ) → IsPhase P phase → MayGo w (Att phase n) → Finds (read_att P table w (fact_over number_text P (Att phase n) rest) at) (read_as w (Att phase n)) rest
+  att_found w phase n rest at in_phase may =
       let v = with_signs 1 w in
       let t = term_at table n in
       let inner = decimal n ++ 41 ∷ rest in
-      joined (read_fixed (codes "att(") (codes "att(" ++ inner) at) (λ _ p r. next (one_term P table v r p) (λ x p r. next (read_fixed (codes ")") r p) (λ _ p r. Found (with (Att 0 x.value) x.walked) p r))) tt inner (read_as w (Att 0 n)) rest (fixed_found (codes "att(") inner at)
-      (λ p. joined (one_term P table v inner p) (λ x p r. next (read_fixed (codes ")") r p) (λ _ p r. Found (with (Att 0 x.value) x.walked) p r)) (with t (with_term t v)) (41 ∷ rest) (read_as w (Att 0 n)) rest (one_found v n 41 rest p may.0 may.1 refl)
-      (λ q. joined (read_fixed (codes ")") (41 ∷ rest) q) (λ _ p r. Found (with (Att 0 t) (with_term t v)) p r) tt rest (read_as w (Att 0 n)) rest (fixed_found (codes ")") rest q) (λ s. record { place = s; is = refl })))
+      phase_first P (codes "att") (λ k p r. next (one_term P table v r p) (λ x p r. next (read_fixed (codes ")") r p) (λ _ p r. Found (with (Att k x.value) x.walked) p r))) phase inner at (read_as w (Att phase n)) rest in_phase
+      (λ p. joined (one_term P table v inner p) (λ x p r. next (read_fixed (codes ")") r p) (λ _ p r. Found (with (Att phase x.value) x.walked) p r)) (with t (with_term t v)) (41 ∷ rest) (read_as w (Att phase n)) rest (one_found v n 41 rest p may.0 may.1 refl)
+      (λ q. joined (read_fixed (codes ")") (41 ∷ rest) q) (λ _ p r. Found (with (Att phase t) (with_term t v)) p r) tt rest (read_as w (Att phase n)) rest (fixed_found (codes ")") rest q) (λ s. record { place = s; is = refl })))
 
-  mess_found : (w : Walked) (m n : ℕ) (rest : List ℕ) (at : ℕ) → MayGo w (Mess 0 m n) → Finds (read_mess P table w (fact_over number_text P (Mess 0 m n) rest) at) (read_as w (Mess 0 m n)) rest
-  mess_found w m n rest at may =
+  mess_found : (w : Walked) (phase m n : ℕ) (rest : List ℕ) (at : ℕ) → IsPhase P phase → MayGo w (Mess phase m n) → Finds (read_mess P table w (fact_over number_text P (Mess phase m n) rest) at) (read_as w (Mess phase m n)) rest
+  mess_found w phase m n rest at in_phase may =
       let v = with_signs 1 w in
       let t = term_at table m in
       let u = term_at table n in
@@ -191,25 +199,33 @@ module _ (P : Protocol) (names : HasNames P) (table : List Term) where
       let y = with_term u x in
       let second = decimal n ++ 41 ∷ rest in
       let first = decimal m ++ 44 ∷ second in
-      joined (read_fixed (codes "mess(") (codes "mess(" ++ first) at) (λ _ p r. next (one_term P table v r p) (λ a p r. next (read_fixed (codes ",") r p) (λ _ p r. next (one_term P table a.walked r p) (λ b p r. next (read_fixed (codes ")") r p) (λ _ p r. Found (with (Mess 0 a.value b.value) b.walked) p r)))))
-      tt first (read_as w (Mess 0 m n)) rest (fixed_found (codes "mess(") first at)
-      (λ p. joined (one_term P table v first p) (λ a p r. next (read_fixed (codes ",") r p) (λ _ p r. next (one_term P table a.walked r p) (λ b p r. next (read_fixed (codes ")") r p) (λ _ p r. Found (with (Mess 0 a.value b.value) b.walked) p r))))
-      (with t x) (44 ∷ second) (read_as w (Mess 0 m n)) rest (one_found v m 44 second p may.0 may.1 refl)
-      (λ q. joined (read_fixed (codes ",") (44 ∷ second) q) (λ _ p r. next (one_term P table x r p) (λ b p r. next (read_fixed (codes ")") r p) (λ _ p r. Found (with (Mess 0 t b.value) b.walked) p r)))
-      tt second (read_as w (Mess 0 m n)) rest (fixed_found (codes ",") second q)
-      (λ s. joined (one_term P table x second s) (λ b p r. next (read_fixed (codes ")") r p) (λ _ p r. Found (with (Mess 0 t b.value) b.walked) p r)) (with u y) (41 ∷ rest) (read_as w (Mess 0 m n)) rest (one_found x n 41 rest s may.2.0 may.2.1 refl)
-      (λ i. joined (read_fixed (codes ")") (41 ∷ rest) i) (λ _ p r. Found (with (Mess 0 t u) y) p r) tt rest (read_as w (Mess 0 m n)) rest (fixed_found (codes ")") rest i) (λ j. record { place = j; is = refl })))))
+      phase_first P (codes "mess") (λ k p r. next (one_term P table v r p) (λ a p r. next (read_fixed (codes ",") r p) (λ _ p r. next (one_term P table a.walked r p) (λ b p r. next (read_fixed (codes ")") r p) (λ _ p r. Found (with (Mess k a.value b.value) b.walked) p r)))))
+      phase first at (read_as w (Mess phase m n)) rest in_phase
+      (λ p. joined (one_term P table v first p) (λ a p r. next (read_fixed (codes ",") r p) (λ _ p r. next (one_term P table a.walked r p) (λ b p r. next (read_fixed (codes ")") r p) (λ _ p r. Found (with (Mess phase a.value b.value) b.walked) p r))))
+      (with t x) (44 ∷ second) (read_as w (Mess phase m n)) rest (one_found v m 44 second p may.0 may.1 refl)
+      (λ q. joined (read_fixed (codes ",") (44 ∷ second) q) (λ _ p r. next (one_term P table x r p) (λ b p r. next (read_fixed (codes ")") r p) (λ _ p r. Found (with (Mess phase t b.value) b.walked) p r)))
+      tt second (read_as w (Mess phase m n)) rest (fixed_found (codes ",") second q)
+      (λ s. joined (one_term P table x second s) (λ b p r. next (read_fixed (codes ")") r p) (λ _ p r. Found (with (Mess phase t b.value) b.walked) p r)) (with u y) (41 ∷ rest) (read_as w (Mess phase m n)) rest (one_found x n 41 rest s may.2.0 may.2.1 refl)
+      (λ i. joined (read_fixed (codes ")") (41 ∷ rest) i) (λ _ p r. Found (with (Mess phase t u) y) p r) tt rest (read_as w (Mess phase m n)) rest (fixed_found (codes ")") rest i) (λ j. record { place = j; is = refl })))))
 
-  performed_found : (word : List ℕ) (fact : ℕ → List Term → Fact Term) (w : Walked) (e : ℕ) (ns rest : List ℕ) (at : ℕ) → IsEvent P e (length ns) → MayFollowAll table (with_signs 2 w) ns
-      → Finds (read_performed P table word fact w (word ++ event_over number_text P e ns (41 ∷ rest)) at) (with (fact e (map (term_at table) ns)) (past_all (with_signs 2 w) ns)) rest
-  performed_found word fact w e ns rest at is may =
+  called_found : (ds : List Declared) (word : List ℕ) (fact : ℕ → List Term → Fact Term) (w : Walked) (e : ℕ) (ns rest : List ℕ) (at : ℕ)
+      → ((p : ℕ) → Finds (read_call P table ds (with_signs 2 w) (call_over number_text P ds e ns (41 ∷ rest)) p) (with (record { event = e; arguments = map (term_at table) ns }) (past_all (with_signs 2 w) ns)) (41 ∷ rest))
+      → Finds (read_called P table (read_call P table ds) word fact w (word ++ call_over number_text P ds e ns (41 ∷ rest)) at) (with (fact e (map (term_at table) ns)) (past_all (with_signs 2 w) ns)) rest
+  called_found ds word fact w e ns rest at found =
       let v = with_signs 2 w in
       let end = with (fact e (map (term_at table) ns)) (past_all v ns) in
       let made : Performed = record { event = e; arguments = map (term_at table) ns } in
-      let inner = event_over number_text P e ns (41 ∷ rest) in
-      joined (read_fixed word (word ++ inner) at) (λ _ p r. next (read_event P table v r p) (λ f p r. next (read_fixed (codes ")") r p) (λ _ p r. Found (with (fact f.value.event f.value.arguments) f.walked) p r))) tt inner end rest (fixed_found word inner at)
-      (λ p. joined (read_event P table v inner p) (λ f p r. next (read_fixed (codes ")") r p) (λ _ p r. Found (with (fact f.value.event f.value.arguments) f.walked) p r)) (with made (past_all v ns)) (41 ∷ rest) end rest (event_found v e ns rest p is may)
+      let inner = call_over number_text P ds e ns (41 ∷ rest) in
+      joined (read_fixed word (word ++ inner) at) (λ _ p r. next (read_call P table ds v r p) (λ f p r. next (read_fixed (codes ")") r p) (λ _ p r. Found (with (fact f.value.event f.value.arguments) f.walked) p r))) tt inner end rest (fixed_found word inner at)
+      (λ p. joined (read_call P table ds v inner p) (λ f p r. next (read_fixed (codes ")") r p) (λ _ p r. Found (with (fact f.value.event f.value.arguments) f.walked) p r)) (with made (past_all v ns)) (41 ∷ rest) end rest (found p)
       (λ q. joined (read_fixed (codes ")") (41 ∷ rest) q) (λ _ p r. Found end p r) tt rest end rest (fixed_found (codes ")") rest q) (λ s. record { place = s; is = refl })))
+
+  performed_found : (word : List ℕ) (fact : ℕ → List Term → Fact Term) (w : Walked) (e : ℕ) (ns rest : List ℕ) (at : ℕ) → IsEvent P e (length ns) → MayFollowAll table (with_signs 2 w) ns
+      → Finds (read_performed P table word fact w (word ++ event_over number_text P e ns (41 ∷ rest)) at) (with (fact e (map (term_at table) ns)) (past_all (with_signs 2 w) ns)) rest
+  performed_found word fact w e ns rest at is may = called_found P.events word fact w e ns rest at (λ p. event_found (with_signs 2 w) e ns rest p is may)
+
+  tab_found : (w : Walked) (n : ℕ) (ns rest : List ℕ) (at : ℕ) → IsTable P n (length ns) → MayGo w (Tab n ns) → Finds (read_tab P table w (fact_over number_text P (Tab n ns) rest) at) (read_as w (Tab n ns)) rest
+  tab_found w n ns rest at is may = called_found P.tables (codes "tab(") (λ t ts. Tab t ts) w n ns rest at (λ p. entry_found (with_signs 2 w) n ns rest p is may)
 
   -- no number begins with `)`
   number_front : (n : ℕ) (k : List ℕ) → IsShort n → (front (decimal n ++ k) == 41) ≡ false
@@ -237,21 +253,17 @@ module _ (P : Protocol) (names : HasNames P) (table : List Term) where
       (joined (read_terms P table v inner p) (λ x p r. Found (with (Bad x.value) x.walked) p r) (with (map (term_at table) (n ∷ ns)) (past_all v (n ∷ ns))) rest (read_as w (Bad (n ∷ ns))) rest (terms_found v n ns rest p may) (λ q. record { place = q; is = refl })))
 
   pub hypothesis_found : (w : Walked) (f : Fact ℕ) (rest : List ℕ) (at : ℕ) → HasPredicate P f → MayBeHypothesis f → MayGo w f → Finds (read_hypothesis P table w (fact_over number_text P f rest) at) (read_as w f) rest
-  hypothesis_found w (Att zero n) rest at has may go = att_found w n rest at go
-  hypothesis_found w (Mess zero m n) rest at has may go = mess_found w m n rest at go
-  hypothesis_found w (Att (suc k) n) rest at has may go = absurd has
-  hypothesis_found w (Mess (suc k) m n) rest at has may go = absurd has
-  hypothesis_found w (Tab n ns) rest at has may go = absurd has
+  hypothesis_found w (Att k n) rest at has may go = att_found w k n rest at has go
+  hypothesis_found w (Mess k m n) rest at has may go = mess_found w k m n rest at has go
+  hypothesis_found w (Tab n ns) rest at has may go = tab_found w n ns rest at has go
   hypothesis_found w (Ev e ns) rest at has may go = performed_found (codes "ev(") (λ e ts. Ev e ts) w e ns rest at has go
   hypothesis_found w (Mev e ns) rest at has may go = performed_found (codes "mev(") (λ e ts. Mev e ts) w e ns rest at has go
   hypothesis_found w (Bad ns) rest at has may go = absurd may
 
   pub conclusion_found : (w : Walked) (f : Fact ℕ) (rest : List ℕ) (at : ℕ) → HasPredicate P f → MayBeConclusion f → MayGo w f → Finds (read_conclusion P table w (fact_over number_text P f rest) at) (read_as w f) rest
-  conclusion_found w (Att zero n) rest at has may go = att_found w n rest at go
-  conclusion_found w (Mess zero m n) rest at has may go = mess_found w m n rest at go
-  conclusion_found w (Att (suc k) n) rest at has may go = absurd has
-  conclusion_found w (Mess (suc k) m n) rest at has may go = absurd has
-  conclusion_found w (Tab n ns) rest at has may go = absurd has
+  conclusion_found w (Att k n) rest at has may go = att_found w k n rest at has go
+  conclusion_found w (Mess k m n) rest at has may go = mess_found w k m n rest at has go
+  conclusion_found w (Tab n ns) rest at has may go = tab_found w n ns rest at has go
   conclusion_found w (Ev e ns) rest at has may go = performed_found (codes "ev(") (λ e ts. Ev e ts) w e ns rest at has go
   conclusion_found w (Mev e ns) rest at has may go = absurd may
   conclusion_found w (Bad ns) rest at has may go = bad_found w ns rest at go

@@ -6,20 +6,22 @@ use Rattle.std.proofs.lemmas.List.{append-nil, take-append-drop, length-map}
 use Rattle.std.proofs.lemmas.Bool.Decides.{nat_tests}
 use Rattle.spec_trees.specs.Tree.{size}
 use Rattle.spec_calculus.specs.Bounds.{most_symbols}
-use Rattle.spec_calculus.specs.Syntax.{Protocol}
+use Rattle.spec_calculus.specs.Syntax.{Declared, Protocol}
 use Rattle.spec_protocol_tokens.specs.Bytes.{begins_word, is_in_word}
 use Rattle.spec_terms.specs.Term.{Term}
-use Rattle.spec_clauses.specs.Fact.{Fact, Att, Mess, Ev, Mev, Bad, terms_of, map_fact, total, fact_size}
-use Rattle.spec_certificate_text.specs.Words.{event_word}
-use Rattle.spec_certificate_text.specs.OfProtocol.{IsShort, IsEvent}
-use Rattle.spec_certificate_text.specs.Names.{CalledEvent, event_called}
+use Rattle.spec_clauses.specs.Fact.{Fact, Att, Mess, Tab, Ev, Mev, Bad, terms_of, map_fact, total, fact_size}
+use Rattle.spec_certificate_text.specs.Words.{declared_word}
+use Rattle.spec_certificate_text.specs.OfProtocol.{IsShort, IsDeclaredOver, IsPhase}
+use Rattle.spec_certificate_text.specs.Names.{CalledEvent, called_in}
+use Rattle.spec_certificate_text.specs.Text.{phase_text}
 use Rattle.spec_certificate_text.specs.Terms.{Syntax, Arity, NodeOrder, NodeLarge}
 use Rattle.spec_certificate_text.specs.Outcomes.{Found, Faulty, next, front, ended, read_fixed, read_number}
 use Rattle.spec_certificate_text.specs.Facts.{Performed, performed}
 use Rattle.spec_certificate_text.proofs.Parts.{parts, chosen, equal_byte, fixed_there, ended_found, number_there}
-use Rattle.spec_certificate_text.proofs.Called.{event_called_is}
+use Rattle.spec_certificate_text.proofs.FactsThere.{phase_then}
+use Rattle.spec_certificate_text.proofs.Called.{called_in_is}
 use Rattle.spec_node_tables.specs.Nodes.{term_at}
-use Rattle.spec_node_tables.specs.Text.{number_text, terms_text, event_over, fact_over}
+use Rattle.spec_node_tables.specs.Text.{number_text, terms_text, call_over, fact_over}
 use Rattle.spec_node_tables.specs.OfProtocol.{IsFactOver}
 use Rattle.spec_node_tables.specs.Large.{most_certificate_symbols, up_to_terms, up_to_fact, AreUpTo, is_over}
 use Rattle.spec_node_faults.specs.Clauses.{is_out_of_order}
@@ -27,7 +29,7 @@ use Rattle.spec_node_faults.specs.Grammar.{MayBeHypothesis, MayBeConclusion}
 use Rattle.spec_node_faults.proofs.Orders.{InOrder}
 use Rattle.spec_node_reading.specs.Walked.{Walked, with_signs, with_term}
 use Rattle.spec_node_reading.specs.Loops.{Behind, with, row_from}
-use Rattle.spec_node_reading.specs.ReadClauses.{judged_number, one_term, read_terms, read_applied, event_named, read_event, read_att, read_mess, read_performed, read_bad, read_hypothesis, read_conclusion}
+use Rattle.spec_node_reading.specs.ReadClauses.{judged_number, one_term, read_terms, read_applied, event_named, read_call, read_att, read_mess, read_called, read_performed, read_tab, read_bad, read_hypothesis, read_conclusion}
 
 -- what was found is one
 
@@ -168,14 +170,14 @@ module _ (P : Protocol) (table : List Term) where
             through = through_more w y.walked n [] one.order one.small one.together (subst (λ z. Through (with_term t w) [] z.walked) whole (through_none (with_term t w)));
           })
 
-  -- Events.
+  -- Events and entries.
 
-  -- numbers behind the word of an event, or none
+  -- numbers behind the word of an event or a table, or none
   pub record AppliedThere (w : Walked) (word bytes : List ℕ) (x : Behind (List Term)) (rest : List ℕ) : Type 0 where
     pub numbers : List ℕ
     pub value : x.value ≡ terms_at numbers
     pub short : AllByRecursion IsShort numbers
-    pub text : (e : ℕ) → event_word P e ≡ word → word ++ bytes ≡ event_over number_text P e numbers rest
+    pub text : (ds : List Declared) (e : ℕ) → declared_word ds e ≡ word → word ++ bytes ≡ call_over number_text P ds e numbers rest
     pub through : Through w numbers x.walked
 
   pub applied_there : (w : Walked) (word bytes : List ℕ) (at : ℕ) (x : Behind (List Term)) (p : ℕ) (r : List ℕ) → read_applied P table w bytes at ≡ Found x p r → AppliedThere w word bytes x r
@@ -189,7 +191,7 @@ module _ (P : Protocol) (table : List Term) where
         numbers = there.first ∷ there.others;
         value = there.value;
         short = there.short;
-        text = λ e same. ap (λ s. word ++ s) (opens ∙ ap (λ s. 40 ∷ s) there.text) ∙ ap (λ v. v ++ (40 ∷ terms_text number_text P (there.first ∷ there.others) (41 ∷ r))) (sym same);
+        text = λ ds e same. ap (λ s. word ++ s) (opens ∙ ap (λ s. 40 ∷ s) there.text) ∙ ap (λ v. v ++ (40 ∷ terms_text number_text P (there.first ∷ there.others) (41 ∷ r))) (sym same);
         through = there.through;
       })
       (λ isnt alone.
@@ -199,31 +201,31 @@ module _ (P : Protocol) (table : List Term) where
         numbers = [];
         value = ap (λ z. z.value) (sym same);
         short = tt;
-        text = λ e named. ap (λ s. word ++ s) rests ∙ ap (λ v. v ++ r) (sym named);
+        text = λ ds e named. ap (λ s. word ++ s) rests ∙ ap (λ v. v ++ r) (sym named);
         through = subst (λ z. Through w [] z.walked) same (through_none w);
       })
 
-  record EventThere (w : Walked) (bytes : List ℕ) (x : Behind Performed) (rest : List ℕ) : Type 0 where
+  record CallThere (ds : List Declared) (w : Walked) (bytes : List ℕ) (x : Behind Performed) (rest : List ℕ) : Type 0 where
     numbers : List ℕ
     arguments : x.value.arguments ≡ terms_at numbers
-    event : IsEvent P x.value.event (length numbers)
+    event : IsDeclaredOver ds x.value.event (length numbers)
     short : AllByRecursion IsShort numbers
-    text : bytes ≡ event_over number_text P x.value.event numbers rest
+    text : bytes ≡ call_over number_text P ds x.value.event numbers rest
     through : Through w numbers x.walked
 
-  named_there : (w : Walked) (bytes word : List ℕ) (called : Option CalledEvent) (from q : ℕ) (k : List ℕ) (x : Behind Performed) (p : ℕ) (r : List ℕ) → bytes ≡ word ++ k → event_called P word ≡ called → event_named P table called w from q k ≡ Found x p r → EventThere w bytes x r
-  named_there w bytes word None from q k x p r text is found = absurd (cc)
-  named_there w bytes word (Some called) from q k x p r text is found =
-      let named = event_called_is P word called is in
+  named_there : (ds : List Declared) (w : Walked) (bytes word : List ℕ) (called : Option CalledEvent) (from q : ℕ) (k : List ℕ) (x : Behind Performed) (p : ℕ) (r : List ℕ) → bytes ≡ word ++ k → called_in ds word ≡ called → event_named P table called w from q k ≡ Found x p r → CallThere ds w bytes x r
+  named_there ds w bytes word None from q k x p r text is found = absurd (cc)
+  named_there ds w bytes word (Some called) from q k x p r text is found =
+      let named = called_in_is ds word called is in
       let cut = parts (read_applied P table w k q) (λ y q k. next (performed from called y.value q k) (λ e q k. Found (with e y.walked) q k)) x p r found in
       let there = applied_there w word k q cut.value cut.place cut.rest cut.first in
       by cut.value cut.place cut.rest there cut.later named.has_word named.is_of
     where
-      by : (y : Behind (List Term)) (q : ℕ) (s : List ℕ) → AppliedThere w word k y s → next (performed from called y.value q s) (λ e q k. Found (with e y.walked) q k) ≡ Found x p r → event_word P called.number ≡ word → IsEvent P called.number called.arity → EventThere w bytes x r
+      by : (y : Behind (List Term)) (q : ℕ) (s : List ℕ) → AppliedThere w word k y s → next (performed from called y.value q s) (λ e q k. Found (with e y.walked) q k) ≡ Found x p r → declared_word ds called.number ≡ word → IsDeclaredOver ds called.number called.arity → CallThere ds w bytes x r
       by y q s there later has_word is_of =
           let made : Performed = record { event = called.number; arguments = y.value } in
           let cut = parts (performed from called y.value q s) (λ e q k. Found (with e y.walked) q k) x p r later in
-          chosen (length y.value == called.arity) (Found made q s) (Faulty from Arity) cut.value cut.place cut.rest (EventThere w bytes x r) cut.first
+          chosen (length y.value == called.arity) (Found made q s) (Faulty from Arity) cut.value cut.place cut.rest (CallThere ds w bytes x r) cut.first
           (λ fits end.
           let first : made ≡ cut.value = cc in
           let place : s ≡ cut.rest = cc in
@@ -231,23 +233,23 @@ module _ (P : Protocol) (table : List Term) where
           let rests : cut.rest ≡ r = cc in
           let whole : with made y.walked ≡ x = ap (λ e. with e y.walked) first ∙ last in
           let many : length y.value ≡ length there.numbers = ap length there.value ∙ length-map there.numbers (term_at table) in
-          subst (λ z. EventThere w bytes z r) whole record {
+          subst (λ z. CallThere ds w bytes z r) whole record {
             numbers = there.numbers;
             arguments = there.value;
-            event = subst (IsEvent P called.number) (sym (equal_byte (length y.value) called.arity fits) ∙ many) is_of;
+            event = subst (IsDeclaredOver ds called.number) (sym (equal_byte (length y.value) called.arity fits) ∙ many) is_of;
             short = there.short;
-            text = text ∙ (there.text called.number has_word ∙ ap (event_over number_text P called.number there.numbers) (place ∙ rests));
+            text = text ∙ (there.text ds called.number has_word ∙ ap (call_over number_text P ds called.number there.numbers) (place ∙ rests));
             through = there.through;
           })
           (λ misfits never. absurd (cc))
 
-  event_there : (w : Walked) (bytes : List ℕ) (at : ℕ) (x : Behind Performed) (p : ℕ) (r : List ℕ) → read_event P table w bytes at ≡ Found x p r → EventThere w bytes x r
-  event_there w bytes at x p r found =
+  call_there : (ds : List Declared) (w : Walked) (bytes : List ℕ) (at : ℕ) (x : Behind Performed) (p : ℕ) (r : List ℕ) → read_call P table ds w bytes at ≡ Found x p r → CallThere ds w bytes x r
+  call_there ds w bytes at x p r found =
       let long = prefix_len is_in_word bytes in
       let word = take long bytes in
-      let named = event_named P table (event_called P word) w at (at + long) (drop long bytes) in
-      chosen (begins_word (front bytes)) (ended (at + long) (drop long bytes) named) (Faulty at Syntax) x p r (EventThere w bytes x r) found
-      (λ begins some. named_there w bytes word (event_called P word) at (at + long) (drop long bytes) x p r (sym (take-append-drop long bytes)) refl (ended_found (at + long) (drop long bytes) named x p r some))
+      let named = event_named P table (called_in ds word) w at (at + long) (drop long bytes) in
+      chosen (begins_word (front bytes)) (ended (at + long) (drop long bytes) named) (Faulty at Syntax) x p r (CallThere ds w bytes x r) found
+      (λ begins some. named_there ds w bytes word (called_in ds word) at (at + long) (drop long bytes) x p r (sym (take-append-drop long bytes)) refl (ended_found (at + long) (drop long bytes) named x p r some))
       (λ none never. absurd (cc))
 
   -- Facts.
@@ -266,41 +268,41 @@ module _ (P : Protocol) (table : List Term) where
     pub all : x.walked.all ≡ w.all + fact_size x.value
     pub may : May x.value
 
-  att_there : (May : Fact Term → Type 0) → ((t : Term) → May (Att 0 t)) → (w : Walked) (bytes : List ℕ) (at : ℕ) (x : Behind (Fact Term)) (p : ℕ) (r : List ℕ) → read_att P table w bytes at ≡ Found x p r → FactThere May w bytes x r
+  att_there : (May : Fact Term → Type 0) → ((k : ℕ) (t : Term) → May (Att k t)) → (w : Walked) (bytes : List ℕ) (at : ℕ) (x : Behind (Fact Term)) (p : ℕ) (r : List ℕ) → read_att P table w bytes at ≡ Found x p r → FactThere May w bytes x r
   att_there May may w bytes at x p r e =
-      let begin = parts (read_fixed (codes "att(") bytes at) _ x p r e in
-      let opens = fixed_there (codes "att(") bytes at begin.value begin.place begin.rest begin.first in
+      let begin = phase_then P (codes "att") (λ k p r. next (one_term P table (with_signs 1 w) r p) (λ x p r. next (read_fixed (codes ")") r p) (λ _ p r. Found (with (Att k x.value) x.walked) p r))) bytes at x p r e in
+      let phase = begin.phase in
       let cut = parts (one_term P table (with_signs 1 w) begin.rest begin.place) _ x p r begin.later in
       let one = one_there (with_signs 1 w) begin.rest begin.place cut.value cut.place cut.rest cut.first in
       let end = parts (read_fixed (codes ")") cut.rest cut.place) _ x p r cut.later in
       let closes = fixed_there (codes ")") cut.rest cut.place end.value end.place end.rest end.first in
-      let last : with (Att 0 cut.value.value) cut.value.walked ≡ x = cc in
+      let last : with (Att phase cut.value.value) cut.value.walked ≡ x = cc in
       let rests : end.rest ≡ r = cc in
       let n = one.number in
       let t = term_at table n in
       let so = one.is in
-      let whole : with (Att 0 t) (with_term t (with_signs 1 w)) ≡ x = ap (λ y. with (Att 0 y.value) y.walked) so ∙ last in
+      let whole : with (Att phase t) (with_term t (with_signs 1 w)) ≡ x = ap (λ y. with (Att phase y.value) y.walked) so ∙ last in
       let through = through_more (with_signs 1 w) (with_term t (with_signs 1 w)) n [] one.order one.small one.together (through_none (with_term t (with_signs 1 w))) in
       subst (λ y. FactThere May w bytes y r) whole record {
-        numbered = Att 0 n;
+        numbered = Att phase n;
         meant = refl;
-        is = (tt, (one.short, tt));
-        text = opens ∙ ap (λ s. codes "att(" ++ s) (one.text ∙ ap (λ s. decimal n ++ s) (closes ∙ ap (λ s. 41 ∷ s) rests));
+        is = (begin.is, (one.short, tt));
+        text = begin.text ∙ ap (λ s. codes "att" ++ phase_text phase (40 ∷ s)) (one.text ∙ ap (λ s. decimal n ++ s) (closes ∙ ap (λ s. 41 ∷ s) rests));
         order = through.order;
         seen = through.seen;
         small = through.small;
         together = through.together;
         clause = omega arith;
         all = omega arith;
-        may = may t;
+        may = may phase t;
       }
 
   -- two numbers that may follow one another
-  mess_of : (May : Fact Term → Type 0) → ((t u : Term) → May (Mess 0 t u)) → (w : Walked) (bytes : List ℕ) (x : Behind (Fact Term)) (r : List ℕ)
+  mess_of : (May : Fact Term → Type 0) (phase : ℕ) → IsPhase P phase → ((t u : Term) → May (Mess phase t u)) → (w : Walked) (bytes : List ℕ) (x : Behind (Fact Term)) (r : List ℕ)
       → (m : ℕ) → IsShort m → is_out_of_order table w.seen m ≡ false → w.clause + 1 + size (term_at table m) ≤ most_symbols → w.all + 1 + size (term_at table m) ≤ most_certificate_symbols
       → (y z : Behind Term) (n : ℕ) → IsShort n → with (term_at table m) (with_term (term_at table m) (with_signs 1 w)) ≡ y → is_out_of_order table y.walked.seen n ≡ false → y.walked.clause + size (term_at table n) ≤ most_symbols → y.walked.all + size (term_at table n) ≤ most_certificate_symbols
-      → with (term_at table n) (with_term (term_at table n) y.walked) ≡ z → bytes ≡ codes "mess(" ++ (decimal m ++ (44 ∷ (decimal n ++ (41 ∷ r)))) → with (Mess 0 y.value z.value) z.walked ≡ x → FactThere May w bytes x r
-  mess_of May may w bytes x r m short order small together y z n short_n first order_n small_n together_n second text last =
+      → with (term_at table n) (with_term (term_at table n) y.walked) ≡ z → bytes ≡ codes "mess" ++ phase_text phase (40 ∷ (decimal m ++ (44 ∷ (decimal n ++ (41 ∷ r))))) → with (Mess phase y.value z.value) z.walked ≡ x → FactThere May w bytes x r
+  mess_of May phase in_phase may w bytes x r m short order small together y z n short_n first order_n small_n together_n second text last =
       let t = term_at table m in
       let u = term_at table n in
       let v : Walked = with_term t (with_signs 1 w) in
@@ -309,11 +311,11 @@ module _ (P : Protocol) (table : List Term) where
       let fits : v.clause + size u ≤ most_symbols = subst (λ b. b.walked.clause + size u ≤ most_symbols) (sym first) small_n in
       let all_fit : v.all + size u ≤ most_certificate_symbols = subst (λ b. b.walked.all + size u ≤ most_certificate_symbols) (sym first) together_n in
       let through = through_more (with_signs 1 w) end m (n ∷ []) order small together (through_more v end n [] ordered fits all_fit (through_none end)) in
-      let whole : with (Mess 0 t u) end ≡ x = ap (λ b. with (Mess 0 b.value u) (with_term u b.walked)) first ∙ (ap (λ b. with (Mess 0 y.value b.value) b.walked) second ∙ last) in
+      let whole : with (Mess phase t u) end ≡ x = ap (λ b. with (Mess phase b.value u) (with_term u b.walked)) first ∙ (ap (λ b. with (Mess phase y.value b.value) b.walked) second ∙ last) in
       subst (λ b. FactThere May w bytes b r) whole record {
-        numbered = Mess 0 m n;
+        numbered = Mess phase m n;
         meant = refl;
-        is = (tt, (short, (short_n, tt)));
+        is = (in_phase, (short, (short_n, tt)));
         text = text;
         order = through.order;
         seen = through.seen;
@@ -324,10 +326,10 @@ module _ (P : Protocol) (table : List Term) where
         may = may t u;
       }
 
-  mess_there : (May : Fact Term → Type 0) → ((t u : Term) → May (Mess 0 t u)) → (w : Walked) (bytes : List ℕ) (at : ℕ) (x : Behind (Fact Term)) (p : ℕ) (r : List ℕ) → read_mess P table w bytes at ≡ Found x p r → FactThere May w bytes x r
+  mess_there : (May : Fact Term → Type 0) → ((k : ℕ) (t u : Term) → May (Mess k t u)) → (w : Walked) (bytes : List ℕ) (at : ℕ) (x : Behind (Fact Term)) (p : ℕ) (r : List ℕ) → read_mess P table w bytes at ≡ Found x p r → FactThere May w bytes x r
   mess_there May may w bytes at x p r e =
-      let begin = parts (read_fixed (codes "mess(") bytes at) _ x p r e in
-      let opens = fixed_there (codes "mess(") bytes at begin.value begin.place begin.rest begin.first in
+      let begin = phase_then P (codes "mess") (λ k p r. next (one_term P table (with_signs 1 w) r p) (λ x p r. next (read_fixed (codes ",") r p) (λ _ p r. next (one_term P table x.walked r p) (λ y p r. next (read_fixed (codes ")") r p) (λ _ p r. Found (with (Mess k x.value y.value) y.walked) p r))))) bytes at x p r e in
+      let phase = begin.phase in
       let cut = parts (one_term P table (with_signs 1 w) begin.rest begin.place) _ x p r begin.later in
       let one = one_there (with_signs 1 w) begin.rest begin.place cut.value cut.place cut.rest cut.first in
       let comma = parts (read_fixed (codes ",") cut.rest cut.place) _ x p r cut.later in
@@ -336,22 +338,22 @@ module _ (P : Protocol) (table : List Term) where
       let two = one_there cut.value.walked comma.rest comma.place again.value again.place again.rest again.first in
       let end = parts (read_fixed (codes ")") again.rest again.place) _ x p r again.later in
       let closes = fixed_there (codes ")") again.rest again.place end.value end.place end.rest end.first in
-      let last = found_value (with (Mess 0 cut.value.value again.value.value) again.value.walked) x end.place p end.rest r end.later in
-      let rests = found_rest (with (Mess 0 cut.value.value again.value.value) again.value.walked) x end.place p end.rest r end.later in
-      let text = opens ∙ ap (λ s. codes "mess(" ++ s) (one.text ∙ ap (λ s. decimal one.number ++ s) (commas ∙ ap (λ s. 44 ∷ s) (two.text ∙ ap (λ s. decimal two.number ++ s) (closes ∙ ap (λ s. 41 ∷ s) rests)))) in
-      mess_of May may w bytes x r one.number one.short one.order one.small one.together cut.value again.value two.number two.short one.is two.order two.small two.together two.is text last
+      let last = found_value (with (Mess phase cut.value.value again.value.value) again.value.walked) x end.place p end.rest r end.later in
+      let rests = found_rest (with (Mess phase cut.value.value again.value.value) again.value.walked) x end.place p end.rest r end.later in
+      let text = begin.text ∙ ap (λ s. codes "mess" ++ phase_text phase (40 ∷ s)) (one.text ∙ ap (λ s. decimal one.number ++ s) (commas ∙ ap (λ s. 44 ∷ s) (two.text ∙ ap (λ s. decimal two.number ++ s) (closes ∙ ap (λ s. 41 ∷ s) rests)))) in
+      mess_of May phase begin.is (may phase) w bytes x r one.number one.short one.order one.small one.together cut.value again.value two.number two.short one.is two.order two.small two.together two.is text last
 
-  -- a fact of an event
-  performed_there : (May : Fact Term → Type 0) → (word : List ℕ) (by_numbers : ℕ → List ℕ → Fact ℕ) (fact : ℕ → List Term → Fact Term) → ((e : ℕ) (ns : List ℕ) → map_fact (term_at table) (by_numbers e ns) ≡ fact e (terms_at ns))
-      → ((e : ℕ) (ns : List ℕ) → IsEvent P e (length ns) → AllByRecursion IsShort ns → IsFactOver IsShort P (by_numbers e ns))
-      → ((e : ℕ) (ns : List ℕ) (rest : List ℕ) → word ++ event_over number_text P e ns (41 ∷ rest) ≡ fact_over number_text P (by_numbers e ns) rest) → ((e : ℕ) (ns : List ℕ) → terms_of (by_numbers e ns) ≡ ns)
+  -- a fact of an event or a table
+  called_there : (ds : List Declared) (May : Fact Term → Type 0) → (word : List ℕ) (by_numbers : ℕ → List ℕ → Fact ℕ) (fact : ℕ → List Term → Fact Term) → ((e : ℕ) (ns : List ℕ) → map_fact (term_at table) (by_numbers e ns) ≡ fact e (terms_at ns))
+      → ((e : ℕ) (ns : List ℕ) → IsDeclaredOver ds e (length ns) → AllByRecursion IsShort ns → IsFactOver IsShort P (by_numbers e ns))
+      → ((e : ℕ) (ns : List ℕ) (rest : List ℕ) → word ++ call_over number_text P ds e ns (41 ∷ rest) ≡ fact_over number_text P (by_numbers e ns) rest) → ((e : ℕ) (ns : List ℕ) → terms_of (by_numbers e ns) ≡ ns)
       → ((before e : ℕ) (ts : List Term) → up_to_fact before (fact e ts) ≡ up_to_terms (before + 2) ts) → ((e : ℕ) (ts : List Term) → fact_size (fact e ts) ≡ 2 + total size ts) → ((e : ℕ) (ts : List Term) → May (fact e ts))
-      → (w : Walked) (bytes : List ℕ) (at : ℕ) (x : Behind (Fact Term)) (p : ℕ) (r : List ℕ) → read_performed P table word fact w bytes at ≡ Found x p r → FactThere May w bytes x r
-  performed_there May word by_numbers fact means is_over text_of terms_are up_to sizes may w bytes at x p r e =
+      → (w : Walked) (bytes : List ℕ) (at : ℕ) (x : Behind (Fact Term)) (p : ℕ) (r : List ℕ) → read_called P table (read_call P table ds) word fact w bytes at ≡ Found x p r → FactThere May w bytes x r
+  called_there ds May word by_numbers fact means is_over text_of terms_are up_to sizes may w bytes at x p r e =
       let begin = parts (read_fixed word bytes at) _ x p r e in
       let opens = fixed_there word bytes at begin.value begin.place begin.rest begin.first in
-      let cut = parts (read_event P table (with_signs 2 w) begin.rest begin.place) _ x p r begin.later in
-      let one = event_there (with_signs 2 w) begin.rest begin.place cut.value cut.place cut.rest cut.first in
+      let cut = parts (read_call P table ds (with_signs 2 w) begin.rest begin.place) _ x p r begin.later in
+      let one = call_there ds (with_signs 2 w) begin.rest begin.place cut.value cut.place cut.rest cut.first in
       let end = parts (read_fixed (codes ")") cut.rest cut.place) _ x p r cut.later in
       let closes = fixed_there (codes ")") cut.rest cut.place end.value end.place end.rest end.first in
       let last : with (fact cut.value.value.event cut.value.value.arguments) cut.value.walked ≡ x = cc in
@@ -367,7 +369,7 @@ module _ (P : Protocol) (table : List Term) where
         numbered = by_numbers event ns;
         meant = means event ns;
         is = is_over event ns one.event one.short;
-        text = opens ∙ (ap (λ s. word ++ s) (one.text ∙ ap (event_over number_text P event ns) (closes ∙ ap (λ s. 41 ∷ s) rests)) ∙ text_of event ns r);
+        text = opens ∙ (ap (λ s. word ++ s) (one.text ∙ ap (call_over number_text P ds event ns) (closes ∙ ap (λ s. 41 ∷ s) rests)) ∙ text_of event ns r);
         order = subst (InOrder table w.seen) (sym (terms_are event ns)) one.through.order;
         seen = one.through.seen ∙ ap (λ ms. w.seen ++ terms_at ms) (sym (terms_are event ns));
         small = subst (AreUpTo most_symbols) (sym (up_to w.clause event (terms_at ns))) one.through.small;
@@ -379,11 +381,15 @@ module _ (P : Protocol) (table : List Term) where
 
   ev_there : (May : Fact Term → Type 0) → ((e : ℕ) (ts : List Term) → May (Ev e ts)) → (w : Walked) (bytes : List ℕ) (at : ℕ) (x : Behind (Fact Term)) (p : ℕ) (r : List ℕ) → read_performed P table (codes "ev(") (λ e ts. Ev e ts) w bytes at ≡ Found x p r → FactThere May w bytes x r
   ev_there May may w bytes at x p r e =
-      performed_there May (codes "ev(") (λ e ns. Ev e ns) (λ e ts. Ev e ts) (λ e ns. refl) (λ e ns is short. (is, short)) (λ e ns rest. refl) (λ e ns. refl) (λ before e ts. refl) (λ e ts. refl) may w bytes at x p r e
+      called_there P.events May (codes "ev(") (λ e ns. Ev e ns) (λ e ts. Ev e ts) (λ e ns. refl) (λ e ns is short. (is, short)) (λ e ns rest. refl) (λ e ns. refl) (λ before e ts. refl) (λ e ts. refl) may w bytes at x p r e
 
   mev_there : (May : Fact Term → Type 0) → ((e : ℕ) (ts : List Term) → May (Mev e ts)) → (w : Walked) (bytes : List ℕ) (at : ℕ) (x : Behind (Fact Term)) (p : ℕ) (r : List ℕ) → read_performed P table (codes "mev(") (λ e ts. Mev e ts) w bytes at ≡ Found x p r → FactThere May w bytes x r
   mev_there May may w bytes at x p r e =
-      performed_there May (codes "mev(") (λ e ns. Mev e ns) (λ e ts. Mev e ts) (λ e ns. refl) (λ e ns is short. (is, short)) (λ e ns rest. refl) (λ e ns. refl) (λ before e ts. refl) (λ e ts. refl) may w bytes at x p r e
+      called_there P.events May (codes "mev(") (λ e ns. Mev e ns) (λ e ts. Mev e ts) (λ e ns. refl) (λ e ns is short. (is, short)) (λ e ns rest. refl) (λ e ns. refl) (λ before e ts. refl) (λ e ts. refl) may w bytes at x p r e
+
+  tab_there : (May : Fact Term → Type 0) → ((n : ℕ) (ts : List Term) → May (Tab n ts)) → (w : Walked) (bytes : List ℕ) (at : ℕ) (x : Behind (Fact Term)) (p : ℕ) (r : List ℕ) → read_tab P table w bytes at ≡ Found x p r → FactThere May w bytes x r
+  tab_there May may w bytes at x p r e =
+      called_there P.tables May (codes "tab(") (λ n ns. Tab n ns) (λ n ts. Tab n ts) (λ n ns. refl) (λ n ns is short. (is, short)) (λ n ns rest. refl) (λ n ns. refl) (λ before n ts. refl) (λ n ts. refl) may w bytes at x p r e
 
   bad_there : (May : Fact Term → Type 0) → ((ts : List Term) → May (Bad ts)) → (w : Walked) (bytes : List ℕ) (at : ℕ) (x : Behind (Fact Term)) (p : ℕ) (r : List ℕ) → read_bad P table w bytes at ≡ Found x p r → FactThere May w bytes x r
   bad_there May may w bytes at x p r e =
@@ -436,24 +442,30 @@ module _ (P : Protocol) (table : List Term) where
   hypothesis_there w bytes at x p r e =
       let mev = read_performed P table (codes "mev(") (λ e ts. Mev e ts) w bytes at in
       let ev = read_performed P table (codes "ev(") (λ e ts. Ev e ts) w bytes at in
+      let tab_or = if front bytes == 116 then read_tab P table w bytes at else read_att P table w bytes at in
       let T = FactThere MayBeHypothesis w bytes x r in
-      chosen (front bytes == 109) (if front (drop 2 bytes) == 118 then mev else read_mess P table w bytes at) (if front bytes == 101 then ev else read_att P table w bytes at) x p r T e
+      chosen (front bytes == 109) (if front (drop 2 bytes) == 118 then mev else read_mess P table w bytes at) (if front bytes == 101 then ev else tab_or) x p r T e
       (λ m found. chosen (front (drop 2 bytes) == 118) mev (read_mess P table w bytes at) x p r T found
       (λ v told. mev_there MayBeHypothesis (λ e ts. tt) w bytes at x p r told)
-      (λ no_v told. mess_there MayBeHypothesis (λ t u. tt) w bytes at x p r told))
-      (λ no_m other. chosen (front bytes == 101) ev (read_att P table w bytes at) x p r T other
+      (λ no_v told. mess_there MayBeHypothesis (λ k t u. tt) w bytes at x p r told))
+      (λ no_m other. chosen (front bytes == 101) ev tab_or x p r T other
       (λ v told. ev_there MayBeHypothesis (λ e ts. tt) w bytes at x p r told)
-      (λ no_v told. att_there MayBeHypothesis (λ t. tt) w bytes at x p r told))
+      (λ no_v rest. chosen (front bytes == 116) (read_tab P table w bytes at) (read_att P table w bytes at) x p r T rest
+      (λ is told. tab_there MayBeHypothesis (λ n ts. tt) w bytes at x p r told)
+      (λ isnt told. att_there MayBeHypothesis (λ k t. tt) w bytes at x p r told)))
 
   pub conclusion_there : (w : Walked) (bytes : List ℕ) (at : ℕ) (x : Behind (Fact Term)) (p : ℕ) (r : List ℕ) → read_conclusion P table w bytes at ≡ Found x p r → FactThere MayBeConclusion w bytes x r
   conclusion_there w bytes at x p r e =
       let ev = read_performed P table (codes "ev(") (λ e ts. Ev e ts) w bytes at in
-      let bad_or = if front bytes == 98 then read_bad P table w bytes at else read_att P table w bytes at in
+      let tab_or = if front bytes == 116 then read_tab P table w bytes at else read_att P table w bytes at in
+      let bad_or = if front bytes == 98 then read_bad P table w bytes at else tab_or in
       let T = FactThere MayBeConclusion w bytes x r in
       chosen (front bytes == 109) (read_mess P table w bytes at) (if front bytes == 101 then ev else bad_or) x p r T e
-      (λ m told. mess_there MayBeConclusion (λ t u. tt) w bytes at x p r told)
+      (λ m told. mess_there MayBeConclusion (λ k t u. tt) w bytes at x p r told)
       (λ no_m other. chosen (front bytes == 101) ev bad_or x p r T other
       (λ v told. ev_there MayBeConclusion (λ e ts. tt) w bytes at x p r told)
-      (λ no_v rest. chosen (front bytes == 98) (read_bad P table w bytes at) (read_att P table w bytes at) x p r T rest
+      (λ no_v rest. chosen (front bytes == 98) (read_bad P table w bytes at) tab_or x p r T rest
       (λ b told. bad_there MayBeConclusion (λ ts. tt) w bytes at x p r told)
-      (λ no_b told. att_there MayBeConclusion (λ t. tt) w bytes at x p r told)))
+      (λ no_b last. chosen (front bytes == 116) (read_tab P table w bytes at) (read_att P table w bytes at) x p r T last
+      (λ is told. tab_there MayBeConclusion (λ n ts. tt) w bytes at x p r told)
+      (λ isnt told. att_there MayBeConclusion (λ k t. tt) w bytes at x p r told))))

@@ -7,7 +7,8 @@ use Rattle.spec_certificate_text.specs.Terms.{Code, Arity}
 use Rattle.spec_certificate_faults.specs.Grammar.{EndsAt}
 use Rattle.spec_first_faults.specs.Kinds.{fixed, nothing_before}
 use Rattle.spec_first_faults.specs.Kinds as plain
-use Rattle.spec_first_faults.specs.Facts.{words, WordFault, event_goes_on}
+use Rattle.spec_certificate_text.specs.Names.{with_tables}
+use Rattle.spec_first_faults.specs.Facts.{words, WordFault, event_goes_on, phases}
 use Rattle.spec_node_tables.specs.Text.{number_text, event_over}
 use Rattle.spec_node_reading.specs.Kinds.{KindIn, kept, changing, behind, one_of, marked, row_of}
 use Rattle.spec_node_reading.specs.Walked.{Walked, with_signs, MayFollowAll, table_numbers}
@@ -45,35 +46,48 @@ module _ (P : Protocol) (table : List Term) where
   abbrev pub events : KindIn Walked
   events = marked performances EventFault
 
-  -- Facts.
+-- Facts.
 
-  -- the word of a predicate and `(`, which are so many symbols
+module _ (P : Protocol) (table : List Term) where
+  -- entries of tables, which are spelled as events are
+  abbrev pub entries : KindIn Walked
+  entries = events (with_tables P) table
+
+  -- the word of a predicate, and `(` where it has no phase, which are so many symbols
   abbrev pub opening : List ℕ → ℕ → KindIn Walked
   opening word signs = changing word (with_signs signs)
 
   abbrev pub closing : KindIn Walked
   closing = kept (fixed (codes ")"))
 
-  -- `att(`, a number and `)`
-  abbrev pub known : KindIn Walked
-  known = behind (opening (codes "att(") 1) (behind (table_numbers table) closing)
+  -- a predicate with its phase, `(` and what it speaks of
+  abbrev pub in_phase : List ℕ → KindIn Walked → KindIn Walked
+  in_phase word K = behind (opening word 1) (behind (kept (phases P)) (behind (kept (fixed (codes "("))) K))
 
-  -- `mess(`, a number, a comma, a number and `)`
+  -- `att` with its phase, `(`, a number and `)`
+  abbrev pub known : KindIn Walked
+  known = in_phase (codes "att") (behind (table_numbers table) closing)
+
+  -- `mess` with its phase, `(`, a number, a comma, a number and `)`
   abbrev pub sent : KindIn Walked
-  sent = behind (opening (codes "mess(") 1) (behind (table_numbers table) (behind (kept (fixed (codes ","))) (behind (table_numbers table) closing)))
+  sent = in_phase (codes "mess") (behind (table_numbers table) (behind (kept (fixed (codes ","))) (behind (table_numbers table) closing)))
+
+  -- `tab(`, an entry and `)`
+  abbrev pub stored : KindIn Walked
+  stored = behind (opening (codes "tab(") 2) (behind entries closing)
 
   -- `ev(` or `mev(`, an event and `)`
   abbrev pub performed : List ℕ → KindIn Walked
-  performed word = behind (opening word 2) (behind events closing)
+  performed word = behind (opening word 2) (behind (events P table) closing)
 
   -- `bad(`, numbers, of which there may be none, and `)`
   abbrev pub violated : KindIn Walked
-  violated = behind (opening (codes "bad(") 1) (one_of closing arguments)
+  violated = behind (opening (codes "bad(") 1) (one_of closing (arguments P table))
 
   -- any fact but `bad`
   abbrev pub hypotheses : KindIn Walked
-  hypotheses = one_of (one_of (performed (codes "mev(")) sent) (one_of (performed (codes "ev(")) known)
+  hypotheses = one_of (one_of (performed (codes "mev(")) sent) (one_of (performed (codes "ev(")) (one_of stored known))
 
   -- any fact but `mev`
   abbrev pub conclusions : KindIn Walked
-  conclusions = one_of sent (one_of (performed (codes "ev(")) (one_of violated known))
+  conclusions = one_of sent (one_of (performed (codes "ev(")) (one_of violated (one_of stored known)))

@@ -1,16 +1,16 @@
--- Reading clauses by numbers, where the table has these terms: facts of phase 0 and of no table, and no constraints.
+-- Reading clauses by numbers, where the table has these terms: of constraints there are none.
 use Rattle.std.specs.Prelude.{ℕ, suc, ◌+◌, ◌==◌, ◌||◌, if◌then◌else◌, List, [], ◌∷◌, ◌++◌, length, take, drop, Option, Some, None, codes}
 use Rattle.std.specs.List.{prefix_len}
 use Rattle.spec_trees.specs.Tree.{size}
 use Rattle.spec_calculus.specs.Bounds.{most_symbols}
-use Rattle.spec_calculus.specs.Syntax.{Protocol}
+use Rattle.spec_calculus.specs.Syntax.{Declared, Protocol}
 use Rattle.spec_protocol_tokens.specs.Bytes.{begins_word, is_in_word}
 use Rattle.spec_terms.specs.Term.{Term}
-use Rattle.spec_clauses.specs.Fact.{Fact, Att, Mess, Ev, Mev, Bad, Clause}
-use Rattle.spec_certificate_text.specs.Names.{CalledEvent, event_called}
+use Rattle.spec_clauses.specs.Fact.{Fact, Att, Mess, Tab, Ev, Mev, Bad, Clause}
+use Rattle.spec_certificate_text.specs.Names.{CalledEvent, called_in}
 use Rattle.spec_certificate_text.specs.Terms.{Syntax, Symbol, NodeOrder, NodeLarge}
 use Rattle.spec_certificate_text.specs.Outcomes.{Outcome, Found, Faulty, next, front, ended, read_fixed, read_number, Reader}
-use Rattle.spec_certificate_text.specs.Facts.{Performed, performed}
+use Rattle.spec_certificate_text.specs.Facts.{Performed, performed, read_phase}
 use Rattle.spec_node_tables.specs.Nodes.{term_at}
 use Rattle.spec_node_tables.specs.Large.{is_over, most_certificate_symbols}
 use Rattle.spec_node_faults.specs.Clauses.{is_out_of_order}
@@ -33,7 +33,7 @@ module _ (P : Protocol) (table : List Term) where
   abbrev pub read_terms : Walked → Reader (Behind (List Term))
   read_terms w bytes at = row_from one_term 44 [] (codes ")") (suc (length bytes)) (with [] w) bytes at
 
-  -- Events.
+  -- Events and entries.
 
   -- what stands behind the word of an event
   abbrev pub read_applied : Walked → Reader (Behind (List Term))
@@ -45,34 +45,50 @@ module _ (P : Protocol) (table : List Term) where
   event_named (Some called) w from place rest =
       next (read_applied w rest place) (λ x p r. next (performed from called x.value p r) (λ e p r. Found (with e x.walked) p r))
 
-  abbrev pub read_event : Walked → Reader (Behind Performed)
-  read_event w bytes at =
+  abbrev pub read_call : List Declared → Walked → Reader (Behind Performed)
+  read_call declarations w bytes at =
       if begins_word (front bytes)
       then ended (at + prefix_len is_in_word bytes) (drop (prefix_len is_in_word bytes) bytes)
-      (event_named (event_called P (take (prefix_len is_in_word bytes) bytes)) w at (at + prefix_len is_in_word bytes) (drop (prefix_len is_in_word bytes) bytes))
+      (event_named (called_in declarations (take (prefix_len is_in_word bytes) bytes)) w at (at + prefix_len is_in_word bytes) (drop (prefix_len is_in_word bytes) bytes))
       else Faulty at Syntax
+
+  abbrev pub read_event : Walked → Reader (Behind Performed)
+  read_event w bytes at = read_call P.events w bytes at
+
+  abbrev pub read_entry : Walked → Reader (Behind Performed)
+  read_entry w bytes at = read_call P.tables w bytes at
 
   -- Facts of each kind.
 
   abbrev pub read_att : Walked → Reader (Behind (Fact Term))
   read_att w bytes at =
-      next (read_fixed (codes "att(") bytes at) (λ _ p r.
+      next (read_fixed (codes "att") bytes at) (λ _ p r.
+      next (read_phase P r p) (λ k p r.
+      next (read_fixed (codes "(") r p) (λ _ p r.
       next (one_term (with_signs 1 w) r p) (λ x p r.
-      next (read_fixed (codes ")") r p) (λ _ p r. Found (with (Att 0 x.value) x.walked) p r)))
+      next (read_fixed (codes ")") r p) (λ _ p r. Found (with (Att k x.value) x.walked) p r)))))
 
   abbrev pub read_mess : Walked → Reader (Behind (Fact Term))
   read_mess w bytes at =
-      next (read_fixed (codes "mess(") bytes at) (λ _ p r.
+      next (read_fixed (codes "mess") bytes at) (λ _ p r.
+      next (read_phase P r p) (λ k p r.
+      next (read_fixed (codes "(") r p) (λ _ p r.
       next (one_term (with_signs 1 w) r p) (λ x p r.
       next (read_fixed (codes ",") r p) (λ _ p r.
       next (one_term x.walked r p) (λ y p r.
-      next (read_fixed (codes ")") r p) (λ _ p r. Found (with (Mess 0 x.value y.value) y.walked) p r)))))
+      next (read_fixed (codes ")") r p) (λ _ p r. Found (with (Mess k x.value y.value) y.walked) p r)))))))
+
+  abbrev pub read_called : (Walked → Reader (Behind Performed)) → List ℕ → (ℕ → List Term → Fact Term) → Walked → Reader (Behind (Fact Term))
+  read_called call word fact w bytes at =
+      next (read_fixed word bytes at) (λ _ p r.
+      next (call (with_signs 2 w) r p) (λ e p r.
+      next (read_fixed (codes ")") r p) (λ _ p r. Found (with (fact e.value.event e.value.arguments) e.walked) p r)))
 
   abbrev pub read_performed : List ℕ → (ℕ → List Term → Fact Term) → Walked → Reader (Behind (Fact Term))
-  read_performed word fact w bytes at =
-      next (read_fixed word bytes at) (λ _ p r.
-      next (read_event (with_signs 2 w) r p) (λ e p r.
-      next (read_fixed (codes ")") r p) (λ _ p r. Found (with (fact e.value.event e.value.arguments) e.walked) p r)))
+  read_performed word fact w bytes at = read_called read_event word fact w bytes at
+
+  abbrev pub read_tab : Walked → Reader (Behind (Fact Term))
+  read_tab w bytes at = read_called read_entry (codes "tab(") (λ t ts. Tab t ts) w bytes at
 
   -- the arguments of `bad`, of which there may be none
   abbrev pub read_bad : Walked → Reader (Behind (Fact Term))
@@ -86,14 +102,16 @@ module _ (P : Protocol) (table : List Term) where
   read_hypothesis w bytes at =
       if front bytes == 109
       then (if front (drop 2 bytes) == 118 then read_performed (codes "mev(") (λ e ts. Mev e ts) w bytes at else read_mess w bytes at)
-      else (if front bytes == 101 then read_performed (codes "ev(") (λ e ts. Ev e ts) w bytes at else read_att w bytes at)
+      else (if front bytes == 101 then read_performed (codes "ev(") (λ e ts. Ev e ts) w bytes at
+      else (if front bytes == 116 then read_tab w bytes at else read_att w bytes at))
 
   -- a fact that may be a conclusion: any but `mev`
   abbrev pub read_conclusion : Walked → Reader (Behind (Fact Term))
   read_conclusion w bytes at =
       if front bytes == 109 then read_mess w bytes at
       else (if front bytes == 101 then read_performed (codes "ev(") (λ e ts. Ev e ts) w bytes at
-      else (if front bytes == 98 then read_bad w bytes at else read_att w bytes at))
+      else (if front bytes == 98 then read_bad w bytes at
+      else (if front bytes == 116 then read_tab w bytes at else read_att w bytes at)))
 
   -- Clauses.
 

@@ -6,7 +6,7 @@ use Rattle.spec_calculus.specs.Syntax.{Protocol}
 use Rattle.spec_terms.specs.Term.{Term}
 use Rattle.spec_clauses.specs.Fact.{Fact, Att, Mess, Tab, Ev, Mev, Bad, Clause}
 use Rattle.spec_certificate_text.specs.Loose.{row, behind}
-use Rattle.spec_certificate_text.specs.Words.{event_word}
+use Rattle.spec_certificate_text.specs.Words.{event_word, table_word}
 use Rattle.spec_certificate_text.specs.Written.{written_row}
 use Rattle.spec_certificate_text.specs.Text.{term_text, fact_text, hypotheses_text, clause_text}
 use Rattle.spec_certificate_text.specs.Text as plain
@@ -24,7 +24,8 @@ module _ (P : Protocol) where
   pub fact_alike : (f : Fact Term) (k : List ℕ) → fact_text P f k ≡ fact_over (term_text P) P f k
   fact_alike (Att phase t) k = refl
   fact_alike (Mess phase t u) k = refl
-  fact_alike (Tab n ts) k = ap (λ r. codes "tab(" ++ r) (terms_alike ts (41 ∷ k))
+  fact_alike (Tab n []) k = refl
+  fact_alike (Tab n (t ∷ ts)) k = ap (λ r. codes "tab(" ++ (table_word P n ++ (40 ∷ r))) (terms_alike (t ∷ ts) (41 ∷ 41 ∷ k))
   fact_alike (Ev e []) k = refl
   fact_alike (Ev e (t ∷ ts)) k = ap (λ r. codes "ev(" ++ (event_word P e ++ (40 ∷ r))) (terms_alike (t ∷ ts) (41 ∷ 41 ∷ k))
   fact_alike (Mev e []) k = refl

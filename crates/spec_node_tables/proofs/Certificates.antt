@@ -1,5 +1,5 @@
 -- Certificates by numbers are told apart by their texts, and so are the certificates that they are made of.
-use Rattle.std.proofs.Common.{◌≡◌, ℕ, zero, suc, ◌<◌, Bool, true, false, ◌||◌, ◌==◌, List, [], ◌∷◌, ◌++◌, map, length, refl, sym, ◌∙◌, ap, subst, arith}
+use Rattle.std.proofs.Common.{◌≡◌, ℕ, ◌<◌, Bool, true, false, ◌||◌, ◌==◌, List, [], ◌∷◌, ◌++◌, map, length, refl, sym, ◌∙◌, ap, subst, arith}
 use Rattle.std.specs.Prelude.{codes}
 use Rattle.std.specs.Char.{is_ascii_digit}
 use Rattle.std.specs.Int.{is_in_range}
@@ -18,7 +18,7 @@ use Rattle.spec_clauses.proofs.Inclusion.{all_has}
 use Rattle.spec_clauses.proofs.Parts.{terms_of-map}
 use Rattle.spec_certificates.specs.Certificate.{Certificate}
 use Rattle.spec_certificate_text.specs.Spelled.{Stops, goes_on}
-use Rattle.spec_certificate_text.specs.OfProtocol.{IsShort, IsSymbolOf, IsEvent, IsTermOf, AreTermsOf, IsFactOf, IsClauseOf, IsCertificateOf, HasNames}
+use Rattle.spec_certificate_text.specs.OfProtocol.{IsShort, IsSymbolOf, IsEvent, IsTable, IsTermOf, AreTermsOf, IsFactOf, IsClauseOf, IsCertificateOf, HasNames}
 use Rattle.spec_certificate_text.specs.Text.{row_lines, certificate_text}
 use Rattle.spec_certificate_text.proofs.Runs.{both_left, first_same, run_apart}
 use Rattle.spec_certificate_text.proofs.Names.{decimal_digits, one_decimal}
@@ -127,11 +127,9 @@ subterm_is P itself is = is
 subterm_is P (of_argument {u = u} {v = v} has within) is = subterm_is P within (all_has (IsTermOf P) (arguments_of v) u (arguments_are P v is) has)
 
 fact_terms_are : (P : Protocol) (f : Fact Term) → IsFactOf P f → AllByRecursion (IsTermOf P) (terms_of f)
-fact_terms_are P (Att zero t) is = (is, tt)
-fact_terms_are P (Att (suc k) t) is = absurd is
-fact_terms_are P (Mess zero t u) is = (is.0, (is.1, tt))
-fact_terms_are P (Mess (suc k) t u) is = absurd is
-fact_terms_are P (Tab n ts) is = absurd is
+fact_terms_are P (Att k t) is = (is.1, tt)
+fact_terms_are P (Mess k t u) is = (is.1, (is.2, tt))
+fact_terms_are P (Tab n ts) is = terms_are P ts is.1
 fact_terms_are P (Ev e ts) is = terms_are P ts is.1
 fact_terms_are P (Mev e ts) is = terms_are P ts is.1
 fact_terms_are P (Bad ts) is = terms_are P ts is
@@ -173,11 +171,9 @@ module _ (P : Protocol) (cs : List (Clause Term)) (are : AllByRecursion (IsClaus
       )
 
   predicate_is : (f : Fact Term) → IsFactOf P f → HasPredicate P (map_fact (number_in (table cs)) f)
-  predicate_is (Att zero t) is = tt
-  predicate_is (Att (suc k) t) is = absurd is
-  predicate_is (Mess zero t u) is = tt
-  predicate_is (Mess (suc k) t u) is = absurd is
-  predicate_is (Tab n ts) is = absurd is
+  predicate_is (Att k t) is = is.0
+  predicate_is (Mess k t u) is = is.0
+  predicate_is (Tab n ts) is = subst (IsTable P n) (sym (length-map ts (number_in (table cs)))) is.0
   predicate_is (Ev e ts) is = subst (IsEvent P e) (sym (length-map ts (number_in (table cs)))) is.0
   predicate_is (Mev e ts) is = subst (IsEvent P e) (sym (length-map ts (number_in (table cs)))) is.0
   predicate_is (Bad ts) is = tt

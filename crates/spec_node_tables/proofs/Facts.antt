@@ -1,19 +1,20 @@
 -- Facts and clauses are told apart by their texts, where their terms are: terms with texts of their own, or numbers.
-use Rattle.std.proofs.Common.{◌≡◌, ℕ, zero, suc, false, List, [], ◌∷◌, ◌++◌, length, get_or, refl, sym, ◌∙◌, ap, arith}
+use Rattle.std.proofs.Common.{◌≡◌, ℕ, false, List, [], ◌∷◌, ◌++◌, length, get_or, refl, sym, ◌∙◌, ap, arith}
 use Rattle.std.specs.Prelude.{codes}
 use Rattle.std.specs.List.{AllByRecursion}
 use Rattle.std.proofs.lemmas.List.{append_cancel_left}
-use Rattle.spec_calculus.specs.Syntax.{Protocol}
+use Rattle.spec_calculus.specs.Syntax.{Declared, Protocol}
 use Rattle.spec_protocol_tokens.specs.Bytes.{is_in_word}
-use Rattle.spec_well_formed.specs.Words as declared
 use Rattle.spec_clauses.specs.Fact.{Fact, Att, Mess, Tab, Ev, Mev, Bad, Clause}
-use Rattle.spec_certificate_text.specs.Words.{event_word}
-use Rattle.spec_certificate_text.specs.Spelled.{Stops, goes_on}
-use Rattle.spec_certificate_text.specs.OfProtocol.{IsEvent, HasNames}
+use Rattle.spec_certificate_text.specs.Words.{declared_word}
+use Rattle.spec_certificate_text.specs.Text.{phase_text}
+use Rattle.spec_certificate_text.specs.Spelled.{IsWord, Stops, goes_on}
+use Rattle.spec_certificate_text.specs.OfProtocol.{IsDeclaredOver, HasNames}
 use Rattle.spec_certificate_text.proofs.Runs.{later_same, run_apart}
-use Rattle.spec_certificate_text.proofs.Names.{event_word_is_word, one_name, event_named}
-use Rattle.spec_certificate_text.proofs.Clauses.{Same}
-use Rattle.spec_node_tables.specs.Text.{later_terms, terms_text, event_over, fact_over, later_hypotheses, hypotheses_over, clause_over, clause_lines_over}
+use Rattle.spec_certificate_text.proofs.Names.{event_word_is_word, table_word_is_word}
+use Rattle.spec_certificate_text.proofs.Called.{HasOwnWords, events_own_words, tables_own_words}
+use Rattle.spec_certificate_text.proofs.Clauses.{Same, phases_apart}
+use Rattle.spec_node_tables.specs.Text.{later_terms, terms_text, call_over, event_over, entry_over, fact_over, later_hypotheses, hypotheses_over, clause_over, clause_lines_over}
 use Rattle.spec_node_tables.specs.OfProtocol.{IsFactOver, IsClauseOver}
 use Rattle.spec_node_tables.proofs.Lines.{differ, is_letter, begins_with}
 
@@ -56,16 +57,16 @@ module _ {X : Type 0} (one : X → List ℕ → List ℕ) (Is : X → Type 0) (t
       let later = later_terms_apart ts us k l are_t.1 are_u.1 first.rest in
       record { thing = ap (λ v. v ∷ ts) first.thing ∙ ap (λ vs. u ∷ vs) later.thing; rest = later.rest }
 
-  -- Events.
+  -- Events and entries.
 
   event_tail : List X → List ℕ → List ℕ
   event_tail [] rest = rest
   event_tail (t ∷ ts) rest = 40 ∷ terms_text one P (t ∷ ts) (41 ∷ rest)
 
-  event_over-parts : (e : ℕ) (ts : List X) (k : List ℕ) → event_over one P e ts k ≡ event_word P e ++ event_tail ts k
+  call_over-parts : (ds : List Declared) (e : ℕ) (ts : List X) (k : List ℕ) → call_over one P ds e ts k ≡ declared_word ds e ++ event_tail ts k
   unfolding event_tail
-  event_over-parts e [] k = refl
-  event_over-parts e (t ∷ ts) k = refl
+  call_over-parts ds e [] k = refl
+  call_over-parts ds e (t ∷ ts) k = refl
 
   event_tail_stops : (ts : List X) (k : List ℕ) → Stops is_in_word (event_tail ts (41 ∷ k))
   unfolding event_tail
@@ -83,19 +84,22 @@ module _ {X : Type 0} (one : X → List ℕ → List ℕ) (Is : X → Type 0) (t
       let inside = terms_apart (t ∷ ts) (u ∷ us) (41 ∷ k) (41 ∷ l) are_t are_u (later_same 40 40 x y e) in
       record { thing = inside.thing; rest = later_same 41 41 k l inside.rest }
 
-  record EventsApart (e g : ℕ) (ts us : List X) (k l : List ℕ) : Type 0 where
-    event : e ≡ g
+  record CallsApart (e g : ℕ) (ts us : List X) (k l : List ℕ) : Type 0 where
+    number : e ≡ g
     arguments : ts ≡ us
     rest : k ≡ l
 
-  events_apart : (e g : ℕ) (ts us : List X) (k l : List ℕ) → IsEvent P e (length ts) → IsEvent P g (length us) → AllByRecursion Is ts → AllByRecursion Is us → event_over one P e ts (41 ∷ k) ≡ event_over one P g us (41 ∷ l) → EventsApart e g ts us k l
-  events_apart e g ts us k l is_e is_g are_t are_u same =
-      let parts = run_apart is_in_word (event_word P e) (event_word P g) (event_tail ts (41 ∷ k)) (event_tail us (41 ∷ l))
-      (event_word_is_word P e (length ts) names is_e).goes_on (event_word_is_word P g (length us) names is_g).goes_on (event_tail_stops ts k) (event_tail_stops us l)
-      (sym (event_over-parts e ts (41 ∷ k)) ∙ (same ∙ event_over-parts g us (41 ∷ l))) in
-      let named : declared.Event e ≡ declared.Event g = one_name P names (declared.Event e) (declared.Event g) (event_word P e) (event_word P g) (event_named P e (length ts) is_e) (event_named P g (length us) is_g) parts.run in
+  calls_apart : (ds : List Declared) → HasOwnWords ds → ((e n : ℕ) → IsDeclaredOver ds e n → IsWord (declared_word ds e)) → (e g : ℕ) (ts us : List X) (k l : List ℕ) → IsDeclaredOver ds e (length ts) → IsDeclaredOver ds g (length us)
+      → AllByRecursion Is ts → AllByRecursion Is us → call_over one P ds e ts (41 ∷ k) ≡ call_over one P ds g us (41 ∷ l) → CallsApart e g ts us k l
+  calls_apart ds own word e g ts us k l is_e is_g are_t are_u same =
+      let parts = run_apart is_in_word (declared_word ds e) (declared_word ds g) (event_tail ts (41 ∷ k)) (event_tail us (41 ∷ l))
+      (word e (length ts) is_e).goes_on (word g (length us) is_g).goes_on (event_tail_stops ts k) (event_tail_stops us l)
+      (sym (call_over-parts ds e ts (41 ∷ k)) ∙ (same ∙ call_over-parts ds g us (41 ∷ l))) in
       let tails = tails_apart ts us k l are_t are_u parts.rest in
-      record { event = cc; arguments = tails.thing; rest = tails.rest }
+      record { number = own e g (length ts) (length us) is_e is_g parts.run; arguments = tails.thing; rest = tails.rest }
+
+  events_apart : (e g : ℕ) (ts us : List X) (k l : List ℕ) → IsDeclaredOver P.events e (length ts) → IsDeclaredOver P.events g (length us) → AllByRecursion Is ts → AllByRecursion Is us → event_over one P e ts (41 ∷ k) ≡ event_over one P g us (41 ∷ l) → CallsApart e g ts us k l
+  events_apart e g ts us k l is_e is_g are_t are_u same = calls_apart P.events (events_own_words P names) (λ m n is. event_word_is_word P m n names is) e g ts us k l is_e is_g are_t are_u same
 
   -- Facts.
 
@@ -110,29 +114,35 @@ module _ {X : Type 0} (one : X → List ℕ → List ℕ) (Is : X → Type 0) (t
 
   facts_apart : (f g : Fact X) (k l : List ℕ) → third f ≡ third g → IsFactOver Is P f → IsFactOver Is P g → fact_over one P f k ≡ fact_over one P g l → Same f g k l
   unfolding third
-  facts_apart (Att zero t) (Att zero u) k l thirds is_f is_g e =
-      let inside = terms_apart (t ∷ []) (u ∷ []) k l is_f.1 is_g.1 (append_cancel_left (codes "att(") (terms_text one P (t ∷ []) (41 ∷ k)) (terms_text one P (u ∷ []) (41 ∷ l)) e) in
+  facts_apart (Att j t) (Att n u) k l thirds is_f is_g e =
+      let x = terms_text one P (t ∷ []) (41 ∷ k) in
+      let y = terms_text one P (u ∷ []) (41 ∷ l) in
+      let phases = phases_apart j n x y is_f.0.1 is_g.0.1 (append_cancel_left (codes "att") (phase_text j (40 ∷ x)) (phase_text n (40 ∷ y)) e) in
+      let inside = terms_apart (t ∷ []) (u ∷ []) k l is_f.1 is_g.1 phases.rest in
       let items : t ∷ [] ≡ u ∷ [] = inside.thing in
-      record { thing = cc; rest = inside.rest }
-  facts_apart (Mess zero t u) (Mess zero v w) k l thirds is_f is_g e =
-      let inside = terms_apart (t ∷ u ∷ []) (v ∷ w ∷ []) k l is_f.1 is_g.1 (append_cancel_left (codes "mess(") (terms_text one P (t ∷ u ∷ []) (41 ∷ k)) (terms_text one P (v ∷ w ∷ []) (41 ∷ l)) e) in
+      let same : t ≡ u = cc in
+      record { thing = ap (λ m. Att m t) phases.thing ∙ ap (Att n) same; rest = inside.rest }
+  facts_apart (Mess j t u) (Mess n v w) k l thirds is_f is_g e =
+      let x = terms_text one P (t ∷ u ∷ []) (41 ∷ k) in
+      let y = terms_text one P (v ∷ w ∷ []) (41 ∷ l) in
+      let phases = phases_apart j n x y is_f.0.1 is_g.0.1 (append_cancel_left (codes "mess") (phase_text j (40 ∷ x)) (phase_text n (40 ∷ y)) e) in
+      let inside = terms_apart (t ∷ u ∷ []) (v ∷ w ∷ []) k l is_f.1 is_g.1 phases.rest in
       let items : t ∷ u ∷ [] ≡ v ∷ w ∷ [] = inside.thing in
-      record { thing = cc; rest = inside.rest }
+      let channels : t ≡ v = cc in
+      let messages : u ≡ w = cc in
+      record { thing = ap (λ m. Mess m t u) phases.thing ∙ (ap (λ c. Mess n c u) channels ∙ ap (Mess n v) messages); rest = inside.rest }
+  facts_apart (Tab n ts) (Tab m us) k l thirds is_f is_g e =
+      let inside = calls_apart P.tables (tables_own_words P names) (λ i j is. table_word_is_word P i j names is) n m ts us k l is_f.0 is_g.0 is_f.1 is_g.1 (append_cancel_left (codes "tab(") (entry_over one P n ts (41 ∷ k)) (entry_over one P m us (41 ∷ l)) e) in
+      record { thing = ap (λ i. Tab i ts) inside.number ∙ ap (Tab m) inside.arguments; rest = inside.rest }
   facts_apart (Ev n ts) (Ev m us) k l thirds is_f is_g e =
       let inside = events_apart n m ts us k l is_f.0 is_g.0 is_f.1 is_g.1 (append_cancel_left (codes "ev(") (event_over one P n ts (41 ∷ k)) (event_over one P m us (41 ∷ l)) e) in
-      record { thing = ap (λ i. Ev i ts) inside.event ∙ ap (Ev m) inside.arguments; rest = inside.rest }
+      record { thing = ap (λ i. Ev i ts) inside.number ∙ ap (Ev m) inside.arguments; rest = inside.rest }
   facts_apart (Mev n ts) (Mev m us) k l thirds is_f is_g e =
       let inside = events_apart n m ts us k l is_f.0 is_g.0 is_f.1 is_g.1 (append_cancel_left (codes "mev(") (event_over one P n ts (41 ∷ k)) (event_over one P m us (41 ∷ l)) e) in
-      record { thing = ap (λ i. Mev i ts) inside.event ∙ ap (Mev m) inside.arguments; rest = inside.rest }
+      record { thing = ap (λ i. Mev i ts) inside.number ∙ ap (Mev m) inside.arguments; rest = inside.rest }
   facts_apart (Bad ts) (Bad us) k l thirds is_f is_g e =
       let inside = terms_apart ts us k l is_f.1 is_g.1 (append_cancel_left (codes "bad(") (terms_text one P ts (41 ∷ k)) (terms_text one P us (41 ∷ l)) e) in
       record { thing = ap Bad inside.thing; rest = inside.rest }
-  facts_apart (Att (suc n) t) g k l thirds is_f is_g e = absurd is_f.0
-  facts_apart (Mess (suc n) t u) g k l thirds is_f is_g e = absurd is_f.0
-  facts_apart (Tab n ts) g k l thirds is_f is_g e = absurd is_f.0
-  facts_apart f (Att (suc n) t) k l thirds is_f is_g e = absurd is_g.0
-  facts_apart f (Mess (suc n) t u) k l thirds is_f is_g e = absurd is_g.0
-  facts_apart f (Tab n ts) k l thirds is_f is_g e = absurd is_g.0
   facts_apart _ _ k l thirds is_f is_g e = absurd (omega (arith, thirds))
 
   fact_apart : (f g : Fact X) (k l : List ℕ) → IsFactOver Is P f → IsFactOver Is P g → fact_over one P f k ≡ fact_over one P g l → Same f g k l

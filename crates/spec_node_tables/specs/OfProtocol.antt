@@ -1,23 +1,21 @@
 -- What is of a protocol, by numbers: each symbol and event is there and has its number of arguments, and each number is within the limit
 -- of digits.
-use Rattle.std.specs.Prelude.{◌≡◌, zero, suc, [], length}
+use Rattle.std.specs.Prelude.{◌≡◌, [], length}
 use Rattle.std.specs.List.{AllByRecursion}
 use Rattle.spec_calculus.specs.Syntax.{Protocol}
 use Rattle.spec_clauses.specs.Fact.{Fact, Att, Mess, Tab, Ev, Mev, Bad, Clause, terms_of}
-use Rattle.spec_certificate_text.specs.OfProtocol.{IsShort, IsSymbolOf, IsEvent}
+use Rattle.spec_certificate_text.specs.OfProtocol.{IsShort, IsSymbolOf, IsEvent, IsTable, IsPhase}
 use Rattle.spec_node_tables.specs.Nodes.{TableNode, Variable, Over, NodeCertificate}
 
 abbrev pub IsNodeOf : Protocol → TableNode → Type 0
 IsNodeOf P (Variable x) = IsShort x
 IsNodeOf P (Over f ns) = IsSymbolOf P f (length ns) × AllByRecursion IsShort ns
 
--- the predicate of a fact is spelled: that of a fact of phase 0, and of no table; its event, where it speaks of one, takes as many arguments
+-- the predicate of a fact is one of the protocol: its phase is, and its event or table, where it speaks of one, takes as many arguments
 abbrev pub HasPredicate : {X : Type 0} → Protocol → Fact X → Type 0
-HasPredicate P (Att zero t) = Unit {0}
-HasPredicate P (Att (suc k) t) = ⊥
-HasPredicate P (Mess zero t u) = Unit {0}
-HasPredicate P (Mess (suc k) t u) = ⊥
-HasPredicate P (Tab table ts) = ⊥
+HasPredicate P (Att k t) = IsPhase P k
+HasPredicate P (Mess k t u) = IsPhase P k
+HasPredicate P (Tab table ts) = IsTable P table (length ts)
 HasPredicate P (Ev e ts) = IsEvent P e (length ts)
 HasPredicate P (Mev e ts) = IsEvent P e (length ts)
 HasPredicate P (Bad ts) = Unit {0}

@@ -2,13 +2,13 @@
 -- function of what follows it.
 use Rattle.std.specs.Prelude.{ℕ, List, [], ◌∷◌, ◌++◌, codes}
 use Rattle.std.specs.Fmt.{decimal}
-use Rattle.spec_calculus.specs.Syntax.{Protocol}
+use Rattle.spec_calculus.specs.Syntax.{Declared, Protocol}
 use Rattle.spec_terms.specs.Term.{Sym, Ctor, Data, Tuple, Free, Point, Attacker}
 use Rattle.spec_clauses.specs.Fact.{Fact, Att, Mess, Tab, Ev, Mev, Bad, Clause}
 use Rattle.spec_certificates.specs.Certificate.{Certificate}
 use Rattle.spec_certificate_text.specs.Loose.{Head, Applied, Tupled, Made, Attackers}
-use Rattle.spec_certificate_text.specs.Words.{symbol_word, event_word}
-use Rattle.spec_certificate_text.specs.Text.{numbers_text, row_lines}
+use Rattle.spec_certificate_text.specs.Words.{declared_word, symbol_word}
+use Rattle.spec_certificate_text.specs.Text.{phase_text, numbers_text, row_lines}
 use Rattle.spec_node_tables.specs.Nodes.{TableNode, Variable, Over, NodeCertificate, with_nodes}
 
 -- Facts and clauses whose terms have a text of their own: that of a term (what `one` is), or a number.
@@ -22,16 +22,27 @@ module _ {X : Type 0} (one : X → List ℕ → List ℕ) (P : Protocol) where
   terms_text [] rest = rest
   terms_text (t ∷ ts) rest = one t (later_terms ts rest)
 
-  -- an event over terms: without any, its word stands alone
-  abbrev pub event_over : ℕ → List X → List ℕ → List ℕ
-  event_over e [] rest = event_word P e ++ rest
-  event_over e (t ∷ ts) rest = event_word P e ++ (40 ∷ terms_text (t ∷ ts) (41 ∷ rest))
+  -- a word over terms: without any it stands alone
+  abbrev pub word_over : List ℕ → List X → List ℕ → List ℕ
+  word_over word [] rest = word ++ rest
+  word_over word (t ∷ ts) rest = word ++ (40 ∷ terms_text (t ∷ ts) (41 ∷ rest))
 
-  -- a predicate over what it speaks of; neither a phase nor the word of a table is spelled yet
+  -- one of these declarations over terms
+  abbrev pub call_over : List Declared → ℕ → List X → List ℕ → List ℕ
+  call_over declarations n ts rest = word_over (declared_word declarations n) ts rest
+
+  -- an event, and an entry of a table
+  abbrev pub event_over : ℕ → List X → List ℕ → List ℕ
+  event_over e ts rest = call_over P.events e ts rest
+
+  abbrev pub entry_over : ℕ → List X → List ℕ → List ℕ
+  entry_over table ts rest = call_over P.tables table ts rest
+
+  -- a predicate with its phase, over what it speaks of
   abbrev pub fact_over : Fact X → List ℕ → List ℕ
-  fact_over (Att phase t) rest = codes "att(" ++ terms_text (t ∷ []) (41 ∷ rest)
-  fact_over (Mess phase t u) rest = codes "mess(" ++ terms_text (t ∷ u ∷ []) (41 ∷ rest)
-  fact_over (Tab table ts) rest = codes "tab(" ++ terms_text ts (41 ∷ rest)
+  fact_over (Att phase t) rest = codes "att" ++ phase_text phase (40 ∷ terms_text (t ∷ []) (41 ∷ rest))
+  fact_over (Mess phase t u) rest = codes "mess" ++ phase_text phase (40 ∷ terms_text (t ∷ u ∷ []) (41 ∷ rest))
+  fact_over (Tab table ts) rest = codes "tab(" ++ entry_over table ts (41 ∷ rest)
   fact_over (Ev e ts) rest = codes "ev(" ++ event_over e ts (41 ∷ rest)
   fact_over (Mev e ts) rest = codes "mev(" ++ event_over e ts (41 ∷ rest)
   fact_over (Bad ts) rest = codes "bad(" ++ terms_text ts (41 ∷ rest)

@@ -1,17 +1,17 @@
 -- Declarations and files are read as they are spelled.
-use Rattle.std.proofs.Common.{◌≡◌, ◌≢◌, ℕ, zero, suc, ◌+◌, ◌≤◌, ◌⊎◌, Bool, true, false, List, [], ◌∷◌, ◌++◌, refl, sym, ap, subst, inl, inr, arith}
+use Rattle.std.proofs.Common.{◌≡◌, ◌≢◌, ℕ, zero, suc, ◌+◌, ◌≤◌, ◌⊎◌, Bool, true, false, List, [], ◌∷◌, ◌++◌, Option, Some, None, refl, sym, ap, subst, inl, inr, arith}
 use Rattle.spec_calculus.specs.Bounds.{most_levels}
 use Rattle.spec_protocol_grammar.specs.declared.class.Class.{Class}
 use Rattle.spec_protocol_grammar.specs.declared.class.Class.TheVariants as w
 use Rattle.spec_protocol_grammar.specs.Classes.{Source, same, fits}
-use Rattle.spec_protocol_grammar.specs.Sketch.{TermSketch, Named, Grouped, TermsSketch, none, more, AlternativeSketch, QuerySketch, AttackerNew, Attacker, Correspondence, RuleSketch, DeclarationSketch, Free, Fun, Data, Reduc, Event, Query, Definition}
-use Rattle.spec_protocol_grammar.specs.Spelling.{Item, word, kept, more_of, term, process, name, happening, alternative, alternatives, question, rule, sized, declaration, declarations, file, Words, IsGreedy}
-use Rattle.spec_protocol_grammar.specs.Reading.{Tired, Reader, built, done, with_place, then_marked, both, either, list_at, term_at, atom_at, process_at, name_from, name_at, happening_from, happening_at, alternative_from, alternative_at, alternatives_from, alternatives_at, attacker_from, correspondence, question_by, question_at, rule_from, rule_at, sized_at, names_at, free, fun, hidden, data_from, event_from, reduc, query, definition, declaration_by, declaration_at, main_at, Rest, declarations_from, declarations_at, file_from, file_at}
+use Rattle.spec_protocol_grammar.specs.Sketch.{TermSketch, Named, Grouped, TermsSketch, none, more, AlternativeSketch, QuerySketch, AttackerNew, Attacker, Correspondence, RuleSketch, DeclarationSketch, Free, Fun, Data, Reduc, Event, Table, Query, Definition}
+use Rattle.spec_protocol_grammar.specs.Spelling.{Item, word, kept, more_of, term, process, name, happening, alternative, alternatives, asked_phase, question, rule, sized, declaration, declarations, file, Words, IsGreedy}
+use Rattle.spec_protocol_grammar.specs.Reading.{Tired, Reader, built, done, with_place, then_marked, both, either, list_at, term_at, atom_at, process_at, name_from, name_at, happening_from, happening_at, alternative_from, alternative_at, alternatives_from, alternatives_at, phase_from, phase_at, attacker_from, correspondence, question_by, question_at, rule_from, rule_at, sized_at, names_at, free, fun, hidden, data_from, event_from, table_from, reduc, query, definition, declaration_by, declaration_at, main_at, Rest, declarations_from, declarations_at, file_from, file_at}
 use Rattle.spec_protocol_grammar.proofs.Same.{same-true}
 use Rattle.spec_protocol_grammar.proofs.Items.{words-split, words_later, greedy-append, greedy-split}
 use Rattle.spec_protocol_grammar.proofs.Good.{Outcome, Sound, Good, tires}
 use Rattle.spec_protocol_grammar.proofs.Combine.{All, Plain, numbered_items, then_items, done_items, good_done, good_numbered, good_then, good_ended}
-use Rattle.spec_protocol_grammar.proofs.Choose.{good_same, good_low, built_sound, built_complete, good_built, choice_sound, refused_sound, both_items, either_items, good_either, good_both, Any, Way, way_sound, way_complete}
+use Rattle.spec_protocol_grammar.proofs.Choose.{good_same, good_low, built_sound, built_complete, good_built, good_optional, choice_sound, refused_sound, optional_items, both_items, either_items, good_either, good_both, Any, Way, way_sound, way_complete}
 use Rattle.spec_protocol_grammar.proofs.Lists.{list_items, NotOpen, NotComma, closes, good_list}
 use Rattle.spec_protocol_grammar.proofs.Terms.{terms_list, terms_there, terms_spelled, good_term}
 use Rattle.spec_protocol_grammar.proofs.Patterns.{good_atom}
@@ -21,12 +21,12 @@ use Rattle.spec_protocol_grammar.proofs.Units.{good_process}
 differs_from : (c a k : Class) → same a k ≡ true → same c a ≡ false → same c k ≡ false
 differs_from c a k e h = subst (λ (d : Class). same c d ≡ false) (same-true a k e) h
 
--- what may follow a list of events, and of alternatives
+-- what may follow a list of events, and what a query asks
 abbrev EndsAlternative : Class → Type 0
 EndsAlternative c = NotOpen c × (w.And ≢ c)
 
 abbrev EndsQuestion : Class → Type 0
-EndsQuestion c = EndsAlternative c × (w.Or ≢ c)
+EndsQuestion c = EndsAlternative c × (w.Or ≢ c) × (w.Phase ≢ c)
 
 h : 0 ≤ most_levels
 h = omega arith
@@ -67,6 +67,22 @@ good_alternatives most = good_same (built alternatives_from (either w.False (the
     (good_list 0 h w.Or (λ k e. e) refl (λ d i. i.0) (λ d i. i.1) (good_alternative most)))
     alternatives_back alternatives_there)
 
+phase_spelled : (o : Option (ℕ × Unit {0})) → asked_phase (phase_from o) ≡ optional_items 0 w.Phase (numbered_items 0 w.Number done_items) o
+phase_spelled None = refl
+phase_spelled (Some x) = refl
+
+abbrev phase_back : Option ℕ → Option (ℕ × Unit {0})
+phase_back None = None
+phase_back (Some x) = Some (x, tt)
+
+phase_there : (o : Option ℕ) → phase_from (phase_back o) ≡ o
+phase_there None = refl
+phase_there (Some x) = refl
+
+good_phase : (most : ℕ) → Good most All false asked_phase EndsQuestion phase_at
+good_phase most = good_built asked_phase phase_from phase_spelled
+    (good_optional 0 h w.Phase (λ k e. e) refl (λ d i. i.2) (λ at e low z. tt) (good_numbered 0 h w.Number refl (good_done most))) phase_back phase_there
+
 -- a term does not begin with `new`
 not_new : (s : Source) (at end : ℕ) (t : TermSketch) → Words s at (term 1 t) end → same w.New (s at).class ≡ false
 not_new s at end (Named n ts) z = differs_from w.New w.Name (s at).class z.0.1 refl
@@ -76,18 +92,18 @@ module _ (most : ℕ) where
   one_term : Good most All false (term 1) NotOpen (term_at most most_levels)
   one_term = good_term most most_levels 1 refl
 
-  abbrev attacked : Reader ((Unit {0} × (ℕ × (Unit {0} × Unit {0}))) ⊎ (TermSketch × Unit {0}))
-  attacked = either w.New (then_marked done w.New (with_place w.Name (then_marked done w.Close done))) (then_marked (term_at most most_levels) w.Close done)
+  abbrev attacked : Reader ((Unit {0} × (ℕ × (Unit {0} × Option ℕ))) ⊎ (TermSketch × Option ℕ))
+  attacked = either w.New (then_marked done w.New (with_place w.Name (then_marked done w.Close phase_at))) (then_marked (term_at most most_levels) w.Close phase_at)
 
-  abbrev attacked_items : (Unit {0} × (ℕ × (Unit {0} × Unit {0}))) ⊎ (TermSketch × Unit {0}) → List Item
-  attacked_items = either_items (then_items done_items 0 w.New (numbered_items 0 w.Name (then_items done_items 0 w.Close done_items))) (then_items (term 1) 0 w.Close done_items)
+  abbrev attacked_items : (Unit {0} × (ℕ × (Unit {0} × Option ℕ))) ⊎ (TermSketch × Option ℕ) → List Item
+  attacked_items = either_items (then_items done_items 0 w.New (numbered_items 0 w.Name (then_items done_items 0 w.Close asked_phase))) (then_items (term 1) 0 w.Close asked_phase)
 
   good_attacked : Good most All false attacked_items EndsQuestion attacked
-  good_attacked = good_either w.New (λ s at x end z. z.0) (λ s at y end z. let parts = words-split s (term 1 y.0) (word 0 w.Close ∷ []) at end z in not_new s at parts.0 y.0 parts.1)
-      (behind w.New (λ k e. e) refl (good_numbered 0 h w.Name refl (behind w.Close (λ k e. e) refl (good_done most))))
-      (good_then 0 h w.Close (λ k e. e) refl (λ e. cc) one_term (good_done most))
+  good_attacked = good_either w.New (λ s at x end z. z.0) (λ s at y end z. let parts = words-split s (term 1 y.0) (word 0 w.Close ∷ asked_phase y.1) at end z in not_new s at parts.0 y.0 parts.1)
+      (behind w.New (λ k e. e) refl (good_numbered 0 h w.Name refl (behind w.Close (λ k e. e) refl (good_phase most))))
+      (good_then 0 h w.Close (λ k e. e) refl (λ e. cc) one_term (good_phase most))
 
-  attacker_spelled : (x : ℕ × (Unit {0} × ((Unit {0} × (ℕ × (Unit {0} × Unit {0}))) ⊎ (TermSketch × Unit {0})))) → question (attacker_from x) ≡ numbered_items 0 w.Attacker (then_items done_items 0 w.Open attacked_items) x
+  attacker_spelled : (x : ℕ × (Unit {0} × ((Unit {0} × (ℕ × (Unit {0} × Option ℕ))) ⊎ (TermSketch × Option ℕ)))) → question (attacker_from x) ≡ numbered_items 0 w.Attacker (then_items done_items 0 w.Open attacked_items) x
   attacker_spelled (n, (o, inl x)) = refl
   attacker_spelled (n, (o, inr x)) = refl
 
@@ -100,17 +116,17 @@ module _ (most : ℕ) where
   question_sound : (c : Class) → Sound false question EndsQuestion (question_by most c)
   question_sound w.Attacker = way_sound attacker_way
   question_sound w.Event = way_sound correspondence_way
-  question_sound _ = refused_sound false question EndsQuestion (AttackerNew 0 0) (λ s at. inl refl) (λ c i. tt)
+  question_sound _ = refused_sound false question EndsQuestion (AttackerNew 0 0 None) (λ s at. inl refl) (λ c i. (i.2, tt))
 
   question_complete : (s : Source) (at : ℕ) (q : QuerySketch) (end : ℕ) → All at → Words s at (question q) end → IsGreedy (question q) (s end).class → Outcome most s at (question q) q end (question_by most (s at).class s at)
-  question_complete s at (AttackerNew n x) end low z y = way_complete (question_by most) w.Attacker (λ k e. e) attacker_way (λ s at. refl) s at (n, (tt, inl (tt, (x, (tt, tt))))) end z.0.1 z y
-  question_complete s at (Attacker n t) end low z y = way_complete (question_by most) w.Attacker (λ k e. e) attacker_way (λ s at. refl) s at (n, (tt, inr (t, tt))) end z.0.1 z y
+  question_complete s at (AttackerNew n x o) end low z y = way_complete (question_by most) w.Attacker (λ k e. e) attacker_way (λ s at. refl) s at (n, (tt, inl (tt, (x, (tt, o))))) end z.0.1 z y
+  question_complete s at (Attacker n t o) end low z y = way_complete (question_by most) w.Attacker (λ k e. e) attacker_way (λ s at. refl) s at (n, (tt, inr (t, o))) end z.0.1 z y
   question_complete s at (Correspondence n a others) end low z y = way_complete (question_by most) w.Event (λ k e. e) correspondence_way (λ s at. refl) s at (n, (a, others)) end z.0.1 z y
 
   good_question : Good most All false question EndsQuestion (question_at most)
   unfolding question_at
   good_question = good_same (λ s at. question_by most (s at).class s at) (question_at most) (λ s at. refl)
-      (record { some = AttackerNew 0 0; some_firm = λ c i. tt; sound = choice_sound question_sound; complete = question_complete })
+      (record { some = AttackerNew 0 0 None; some_firm = λ c i. (i.2, tt); sound = choice_sound question_sound; complete = question_complete })
 
   abbrev rule_reader : Reader (ℕ × (Unit {0} × ((TermSketch × List TermSketch) × (Unit {0} × TermSketch))))
   rule_reader = with_place w.Name (then_marked done w.Open (then_marked (list_at most w.Comma (term_at most most_levels)) w.Close (then_marked done w.Arrow (term_at most most_levels))))
@@ -185,6 +201,9 @@ module _ (most : ℕ) where
   event_way : Way most declaration Any event_from (with_place w.Event sized_at)
   event_way = record { items = _; spelled = λ x. refl; good = good_numbered 0 h w.Event refl good_sized }
 
+  table_way : Way most declaration Any table_from (with_place w.Table sized_at)
+  table_way = record { items = _; spelled = λ x. refl; good = good_numbered 0 h w.Table refl good_sized }
+
   reduc_way : Way most declaration Any reduc (with_place w.Reduc (then_marked (list_at most w.Semicolon (rule_at most)) w.Dot done))
   reduc_way = record {
     items = _;
@@ -194,7 +213,7 @@ module _ (most : ℕ) where
   }
 
   query_way : Way most declaration Any query (with_place w.Query (then_marked (question_at most) w.Dot done))
-  query_way = record { items = _; spelled = λ x. refl; good = good_numbered 0 h w.Query refl (good_then 0 h w.Dot (λ k e. e) refl ((λ e. cc, λ e. cc), λ e. cc) good_question (good_done most)) }
+  query_way = record { items = _; spelled = λ x. refl; good = good_numbered 0 h w.Query refl (good_then 0 h w.Dot (λ k e. e) refl ((λ e. cc, λ e. cc), λ e. cc, λ e. cc) good_question (good_done most)) }
 
   definition_way : Way most declaration Any definition (with_place w.Let (with_place w.Name (then_marked done w.Equals (then_marked (process_at most most_levels) w.Dot done))))
   definition_way = record {
@@ -211,6 +230,7 @@ module _ (most : ℕ) where
   declaration_sound w.Data = way_sound data_way
   declaration_sound w.Reduc = way_sound reduc_way
   declaration_sound w.Event = way_sound event_way
+  declaration_sound w.Table = way_sound table_way
   declaration_sound w.Query = way_sound query_way
   declaration_sound w.Let = way_sound definition_way
   declaration_sound _ = refused_sound false declaration Any (Data 0 0 0) (λ s at. inl refl) (λ c i. tt)
@@ -226,6 +246,7 @@ module _ (most : ℕ) where
   declaration_complete s at (Data n x a) end low z y = way_complete by w.Data (λ k e. e) data_way (λ s at. refl) s at (n, (x, (tt, (a, (tt, tt))))) end z.0.1 z y
   declaration_complete s at (Reduc n r rs) end low z y = way_complete by w.Reduc (λ k e. e) reduc_way (λ s at. refl) s at (n, ((r, rs), tt)) end z.0.1 z y
   declaration_complete s at (Event n x a) end low z y = way_complete by w.Event (λ k e. e) event_way (λ s at. refl) s at (n, (x, (tt, (a, (tt, tt))))) end z.0.1 z y
+  declaration_complete s at (Table n x a) end low z y = way_complete by w.Table (λ k e. e) table_way (λ s at. refl) s at (n, (x, (tt, (a, (tt, tt))))) end z.0.1 z y
   declaration_complete s at (Query n q) end low z y = way_complete by w.Query (λ k e. e) query_way (λ s at. refl) s at (n, (q, tt)) end z.0.1 z y
   declaration_complete s at (Definition n x p) end low z y = way_complete by w.Let (λ k e. e) definition_way (λ s at. refl) s at (n, (x, (tt, (p, tt)))) end z.0.1 z y
 
@@ -243,6 +264,7 @@ declaration_first s at end (Fun n false x a) z = differs_from w.Process w.Privat
 declaration_first s at end (Data n x a) z = differs_from w.Process w.Data (s at).class z.0.1 refl
 declaration_first s at end (Reduc n r rs) z = differs_from w.Process w.Reduc (s at).class z.0.1 refl
 declaration_first s at end (Event n x a) z = differs_from w.Process w.Event (s at).class z.0.1 refl
+declaration_first s at end (Table n x a) z = differs_from w.Process w.Table (s at).class z.0.1 refl
 declaration_first s at end (Query n q) z = differs_from w.Process w.Query (s at).class z.0.1 refl
 declaration_first s at end (Definition n x p) z = differs_from w.Process w.Let (s at).class z.0.1 refl
 
@@ -255,6 +277,7 @@ declaration_longer s at end (Fun n false x a) z = words_later s (word 0 w.Fun �
 declaration_longer s at end (Data n x a) z = words_later s (sized x a) (at + 1) end z.1
 declaration_longer s at end (Reduc n r rs) z = words_later s ((rule r ++ more_of 0 w.Semicolon rule rs) ++ (word 0 w.Dot ∷ [])) (at + 1) end z.1
 declaration_longer s at end (Event n x a) z = words_later s (sized x a) (at + 1) end z.1
+declaration_longer s at end (Table n x a) z = words_later s (sized x a) (at + 1) end z.1
 declaration_longer s at end (Query n q) z = words_later s (question q ++ (word 0 w.Dot ∷ [])) (at + 1) end z.1
 declaration_longer s at end (Definition n x p) z = words_later s (kept 0 x w.Name ∷ word 0 w.Equals ∷ (process 1 p ++ (word 0 w.Dot ∷ []))) (at + 1) end z.1
 
@@ -270,6 +293,7 @@ declaration_closed (Fun n false x a) c e g = g
 declaration_closed (Data n x a) c e g = g
 declaration_closed (Reduc n r rs) c e g = closed_by (rule r ++ more_of 0 w.Semicolon rule rs) 0 w.Dot c e g
 declaration_closed (Event n x a) c e g = g
+declaration_closed (Table n x a) c e g = g
 declaration_closed (Query n q) c e g = closed_by (question q) 0 w.Dot c e g
 declaration_closed (Definition n x p) c e g = closed_by (process 1 p) 0 w.Dot c e g
 

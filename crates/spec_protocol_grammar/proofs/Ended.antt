@@ -27,7 +27,7 @@ among_not ((spelling, class) ∷ others) text h = chosen (bytes_eq text spelling
 
 reserved_not : (word : List ℕ) → ends (reserved_class word) ≡ false
 unfolding reserved_class
-reserved_not word = among_not reserved_table word (refl, (refl, (refl, (refl, (refl, (refl, (refl, (refl, (refl, (refl, (refl, (refl, (refl, (refl, (refl, (refl, (refl, tt)))))))))))))))))
+reserved_not word = among_not reserved_table word (refl, (refl, (refl, (refl, (refl, (refl, (refl, (refl, (refl, (refl, (refl, (refl, (refl, (refl, (refl, (refl, (refl, (refl, (refl, (refl, (refl, (refl, tt))))))))))))))))))))))
 
 symbol_not : (symbol : List ℕ) → ends (symbol_class symbol) ≡ false
 unfolding symbol_class

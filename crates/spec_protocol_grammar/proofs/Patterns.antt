@@ -15,11 +15,11 @@ use Rattle.spec_protocol_grammar.proofs.Lists.{list_items, arguments_items, NotO
 use Rattle.spec_protocol_grammar.proofs.Terms.{never, begins_at, terms_list, terms_there, arguments_spelled, good_term}
 
 -- patterns in a row, and their list
-abbrev patterns_list : PatternsSketch → List PatternSketch
+abbrev pub patterns_list : PatternsSketch → List PatternSketch
 patterns_list no_patterns = []
 patterns_list (more_patterns p ps) = p ∷ patterns_list ps
 
-patterns_there : (ps : PatternsSketch) → patterns_sketch (patterns_list ps) ≡ ps
+pub patterns_there : (ps : PatternsSketch) → patterns_sketch (patterns_list ps) ≡ ps
 patterns_there no_patterns = refl
 patterns_there (more_patterns p ps) = ap (more_patterns p) (patterns_there ps)
 
@@ -27,7 +27,7 @@ commas_spelled : (l : ℕ) (ps : List PatternSketch) → commas_patterns l (patt
 commas_spelled l [] = refl
 commas_spelled l (p ∷ ps) = ap (λ is. word l w.Comma ∷ (pattern (l + 1) p ++ is)) (commas_spelled l ps)
 
-pattern_arguments_spelled : (l : ℕ) (ps : List PatternSketch) → pattern_arguments l (patterns_sketch ps) ≡ arguments_items l (pattern (l + 1)) ps
+pub pattern_arguments_spelled : (l : ℕ) (ps : List PatternSketch) → pattern_arguments l (patterns_sketch ps) ≡ arguments_items l (pattern (l + 1)) ps
 pattern_arguments_spelled l [] = refl
 pattern_arguments_spelled l (p ∷ ps) = ap (λ is. word l w.Open ∷ ((pattern (l + 1) p ++ is) ++ (word l w.Close ∷ []))) (commas_spelled l ps)
 

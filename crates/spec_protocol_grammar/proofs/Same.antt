@@ -7,7 +7,7 @@ use Rattle.spec_protocol_grammar.specs.Classes.{code, same, fits}
 
 -- the classes in order of their codes
 abbrev classes : List Class
-classes = w.Private ∷ w.Free ∷ w.Fun ∷ w.Data ∷ w.Reduc ∷ w.Event ∷ w.Query ∷ w.Attacker ∷ w.Process ∷ w.New ∷ w.False ∷ w.Let ∷ w.In ∷ w.Out ∷ w.If ∷ w.Then ∷ w.Else ∷ w.Later ∷ w.Open ∷ w.Close ∷ w.Comma ∷ w.Semicolon ∷ w.Dot ∷ w.Slash ∷ w.Equals ∷ w.Implies ∷ w.Bar ∷ w.Or ∷ w.And ∷ w.Bang ∷ w.Arrow ∷ w.Name ∷ w.Zero ∷ w.Number ∷ w.End ∷ []
+classes = w.Private ∷ w.Free ∷ w.Fun ∷ w.Data ∷ w.Reduc ∷ w.Event ∷ w.Query ∷ w.Attacker ∷ w.Process ∷ w.New ∷ w.False ∷ w.Let ∷ w.In ∷ w.Out ∷ w.If ∷ w.Then ∷ w.Else ∷ w.Phase ∷ w.Table ∷ w.Insert ∷ w.Get ∷ w.Suchthat ∷ w.Open ∷ w.Close ∷ w.Comma ∷ w.Semicolon ∷ w.Dot ∷ w.Slash ∷ w.Equals ∷ w.Implies ∷ w.Bar ∷ w.Or ∷ w.And ∷ w.Bang ∷ w.Arrow ∷ w.Name ∷ w.Zero ∷ w.Number ∷ w.Other ∷ w.End ∷ []
 
 -- a class is the one that has its code
 at_code : (c : Class) → get_or classes (code c) w.End ≡ c
@@ -28,7 +28,11 @@ at_code w.Out = refl
 at_code w.If = refl
 at_code w.Then = refl
 at_code w.Else = refl
-at_code w.Later = refl
+at_code w.Phase = refl
+at_code w.Table = refl
+at_code w.Insert = refl
+at_code w.Get = refl
+at_code w.Suchthat = refl
 at_code w.Open = refl
 at_code w.Close = refl
 at_code w.Comma = refl
@@ -45,6 +49,7 @@ at_code w.Arrow = refl
 at_code w.Name = refl
 at_code w.Zero = refl
 at_code w.Number = refl
+at_code w.Other = refl
 at_code w.End = refl
 
 -- classes that pass the test are one

@@ -8,7 +8,7 @@ use Rattle.spec_protocol_grammar.specs.Classes.{Source, same, fits}
 use Rattle.spec_protocol_grammar.specs.Sketch.{TermSketch, PatternSketch, ProcessSketch, UnitSketch, FileSketch}
 use Rattle.spec_protocol_grammar.specs.Laws.{HasAnswer}
 use Rattle.spec_protocol_grammar.proofs.Answers.{found_sketch, word_refused, deep_refused}
-use Rattle.spec_protocol_grammar.specs.Reading.{Read, Found, Unexpected, TooDeep, Tired, Reader, step, built, done, with_place, then_marked, optional, both, either, deep, others_of, list_at, arguments_of, arguments_at, begins_term, named, grouped, term_by, term_at, begins_pattern, named_pattern, equal, grouped_pattern, pattern_by, pattern_at, begins_atom, atom_from, atom_at, begins_unit, next_from, beside_from, next_at, zero_unit, macro, inner, replicated, new, output, input, happens, let_unit, if_unit, unit_by, unit_at, process_from, process_at, name_from, name_at, happening_from, happening_at, alternative_from, alternative_at, alternatives_from, alternatives_at, attacker_from, correspondence, question_by, question_at, rule_from, rule_at, sized_at, names_at, free, fun, hidden, data_from, event_from, reduc, query, definition, declaration_by, declaration_at, main_at, declarations_from, declarations_at, file_from, file_at}
+use Rattle.spec_protocol_grammar.specs.Reading.{Read, Found, Unexpected, TooDeep, Tired, Reader, step, built, done, with_place, then_marked, optional, both, either, deep, others_of, list_at, arguments_of, arguments_at, begins_term, named, grouped, term_by, term_at, begins_pattern, named_pattern, equal, grouped_pattern, pattern_by, pattern_at, begins_atom, atom_from, atom_at, condition_from, condition_at, begins_unit, next_from, beside_from, next_at, zero_unit, macro, inner, replicated, new, output, input, happens, let_unit, if_unit, phase_unit, insert, get_unit, unit_by, unit_at, process_from, process_at, name_from, name_at, happening_from, happening_at, alternative_from, alternative_at, alternatives_from, alternatives_at, phase_from, phase_at, attacker_from, correspondence, question_by, question_at, rule_from, rule_at, sized_at, names_at, free, fun, hidden, data_from, event_from, table_from, reduc, query, definition, declaration_by, declaration_at, main_at, declarations_from, declarations_at, file_from, file_at}
 
 -- a choice, by its test
 choice : {X : Type 0} (P : X → Type 0) (b : Bool) (x y : X) → (b ≡ true → P x) → (b ≡ false → P y) → P (cond b x y)
@@ -197,6 +197,9 @@ module _ (size : ℕ) where
       next_steady : (c : Class) (below : Reader UnitSketch) → same c w.End ≡ false → Steady below → Steady (next_at c below)
       next_steady c below ends_not h = built_steady next_from (optional c below) (optional_steady c below ends_not h)
 
+      condition_steady : (left : ℕ) → Steady (condition_at most left)
+      condition_steady left = built_steady condition_from _ (optional_steady w.Suchthat _ refl (then_steady (term_at most left) w.Equals (term_at most left) refl (term_steady left) (term_steady left)))
+
       unit_by_steady : (left : ℕ) (below : Reader UnitSketch) (inside : Reader ProcessSketch) → Steady below → Steady inside → (c : Class) → Steady (unit_by most left below inside c)
       unit_by_steady left below inside h k w.Zero = built_steady zero_unit _ (numbered_steady w.Zero done refl done_steady)
       unit_by_steady left below inside h k w.Name = built_steady macro _ (numbered_steady w.Name done refl done_steady)
@@ -212,6 +215,11 @@ module _ (size : ℕ) where
           (then_steady (term_at most left) w.In _ refl (term_steady left) (both_steady below _ h (next_steady w.Else below refl h)))))
       unit_by_steady left below inside h k w.If = built_steady if_unit _ (numbered_steady w.If _ refl (then_steady (term_at most left) w.Equals _ refl (term_steady left)
           (then_steady (term_at most left) w.Then _ refl (term_steady left) (both_steady below _ h (next_steady w.Else below refl h)))))
+      unit_by_steady left below inside h k w.Phase = built_steady phase_unit _ (numbered_steady w.Phase _ refl (numbered_steady w.Number _ refl (next_steady w.Semicolon below refl h)))
+      unit_by_steady left below inside h k w.Insert = built_steady insert _ (numbered_steady w.Insert _ refl (both_steady (atom_at most left) _ (atom_steady left) (next_steady w.Semicolon below refl h)))
+      unit_by_steady left below inside h k w.Get = built_steady get_unit _ (numbered_steady w.Get _ refl (numbered_steady w.Name _ refl
+          (then_steady (both (arguments_at most (pattern_at most left)) (condition_at most left)) w.In _ refl (both_steady (arguments_at most (pattern_at most left)) _ (arguments_steady (pattern_at most left) (pattern_steady left)) (condition_steady left))
+          (both_steady below _ h (next_steady w.Else below refl h)))))
       unit_by_steady left below inside h k _ = record { rests = λ at l. tt }
 
       process_steps : (left : ℕ) → Steady (unit_at most left) → Steady (process_at most left) → Steady (process_at most (suc left))
@@ -249,10 +257,13 @@ module _ (size : ℕ) where
             (either_steady w.False _ _ (then_steady done w.False done refl done_steady done_steady) (list_steady w.Or (alternative_at most) refl alternative_steady)) in whole.rests at l;
       }
 
+      phase_steady : Steady phase_at
+      phase_steady = built_steady phase_from _ (optional_steady w.Phase _ refl (numbered_steady w.Number done refl done_steady))
+
       question_by_steady : (c : Class) → Steady (question_by most c)
       question_by_steady w.Attacker = built_steady attacker_from _ (numbered_steady w.Attacker _ refl (then_steady done w.Open _ refl done_steady
-          (either_steady w.New _ _ (then_steady done w.New _ refl done_steady (numbered_steady w.Name _ refl (then_steady done w.Close done refl done_steady done_steady)))
-          (then_steady (term_at most most_levels) w.Close done refl (term_steady most_levels) done_steady))))
+          (either_steady w.New _ _ (then_steady done w.New _ refl done_steady (numbered_steady w.Name _ refl (then_steady done w.Close phase_at refl done_steady phase_steady)))
+          (then_steady (term_at most most_levels) w.Close phase_at refl (term_steady most_levels) phase_steady))))
       question_by_steady w.Event = built_steady correspondence _ (numbered_steady w.Event _ refl (then_steady (atom_at most most_levels) w.Implies _ refl (atom_steady most_levels) alternatives_steady))
       question_by_steady _ = record { rests = λ at l. tt }
 
@@ -280,6 +291,7 @@ module _ (size : ℕ) where
       declaration_by_moving w.Free = built_moving (free true) _ (numbered_moving w.Free (names_at most) refl names_steady)
       declaration_by_moving w.Fun = built_moving (fun true) _ (numbered_moving w.Fun sized_at refl sized_steady)
       declaration_by_moving w.Data = built_moving data_from _ (numbered_moving w.Data sized_at refl sized_steady)
+      declaration_by_moving w.Table = built_moving table_from _ (numbered_moving w.Table sized_at refl sized_steady)
       declaration_by_moving w.Reduc = built_moving reduc _ (numbered_moving w.Reduc _ refl (then_steady _ w.Dot done refl (list_steady w.Semicolon (rule_at most) refl rule_steady) done_steady))
       declaration_by_moving w.Event = built_moving event_from _ (numbered_moving w.Event sized_at refl sized_steady)
       declaration_by_moving w.Query = built_moving query _ (numbered_moving w.Query _ refl (then_steady (question_at most) w.Dot done refl question_steady done_steady))

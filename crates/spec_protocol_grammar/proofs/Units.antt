@@ -1,20 +1,20 @@
 -- Units and processes are read as they are spelled.
-use Rattle.std.proofs.Common.{◌≡◌, ◌≢◌, ℕ, zero, suc, ◌+◌, ◌<◌, ◌≤◌, true, false, List, [], ◌∷◌, Option, Some, None, refl, ap, inl, arith}
+use Rattle.std.proofs.Common.{◌≡◌, ◌≢◌, ℕ, zero, suc, ◌+◌, ◌<◌, ◌≤◌, true, false, List, [], ◌∷◌, ◌++◌, Option, Some, None, refl, ap, subst, inl, arith}
 use Rattle.spec_calculus.specs.Bounds.{most_levels}
 use Rattle.spec_protocol_grammar.specs.declared.class.Class.{Class}
 use Rattle.spec_protocol_grammar.specs.declared.class.Class.TheVariants as w
 use Rattle.spec_protocol_grammar.specs.Classes.{Source, fits}
-use Rattle.spec_protocol_grammar.specs.Sketch.{TermSketch, Named, none, NamedPattern, no_patterns, ProcessSketch, Process, BesideSketch, alone, beside, UnitSketch, Zero, Macro, Inner, Replicated, New, Output, Input, Happens, Let, If, NextSketch, omitted, given}
-use Rattle.spec_protocol_grammar.specs.Spelling.{Item, no, term, pattern, atom, process, besides, unit, next, Words, IsGreedy}
+use Rattle.spec_protocol_grammar.specs.Sketch.{TermSketch, Named, none, PatternSketch, NamedPattern, PatternsSketch, no_patterns, ConditionSketch, always, such_that, ProcessSketch, Process, BesideSketch, alone, beside, UnitSketch, Zero, Macro, Inner, Replicated, New, Output, Input, Happens, Let, If, Phase, Insert, Get, NextSketch, omitted, given}
+use Rattle.spec_protocol_grammar.specs.Spelling.{Item, no, word, kept, term, pattern, atom, condition, process, besides, unit, next, Words, IsGreedy}
 use Rattle.spec_protocol_grammar.specs.Refusals.{DeepAt}
-use Rattle.spec_protocol_grammar.specs.Reading.{Reader, built, done, deep, with_place, then_marked, optional, both, term_at, pattern_at, atom_at, begins_unit, next_from, beside_from, next_at, zero_unit, macro, inner, replicated, new, output, input, happens, let_unit, if_unit, unit_by, unit_at, process_from, process_at}
+use Rattle.spec_protocol_grammar.specs.Reading.{Reader, built, done, deep, with_place, then_marked, optional, both, arguments_at, term_at, pattern_at, atom_at, condition_from, condition_at, begins_unit, next_from, beside_from, next_at, zero_unit, macro, inner, replicated, new, output, input, happens, let_unit, if_unit, phase_unit, insert, get_unit, unit_by, unit_at, process_from, process_at}
 use Rattle.spec_protocol_grammar.proofs.Items.{words-split, deep_front, greedy-append}
 use Rattle.spec_protocol_grammar.proofs.Good.{IsDeep, Outcome, Sound, Good}
-use Rattle.spec_protocol_grammar.proofs.Combine.{All, then_items, done_items, good_done, good_numbered, good_then}
-use Rattle.spec_protocol_grammar.proofs.Choose.{good_same, good_built, good_inner, choice_sound, refused_sound, good_deep, optional_items, both_items, good_optional, good_followed, Any, Way, way_sound, way_complete}
-use Rattle.spec_protocol_grammar.proofs.Lists.{NotOpen}
+use Rattle.spec_protocol_grammar.proofs.Combine.{All, numbered_items, then_items, done_items, good_done, good_numbered, good_then}
+use Rattle.spec_protocol_grammar.proofs.Choose.{good_same, good_built, good_firm, good_inner, choice_sound, refused_sound, good_deep, optional_items, both_items, good_optional, good_followed, Any, Way, way_sound, way_complete}
+use Rattle.spec_protocol_grammar.proofs.Lists.{arguments_items, NotOpen, good_arguments}
 use Rattle.spec_protocol_grammar.proofs.Terms.{never, begins_at, good_term}
-use Rattle.spec_protocol_grammar.proofs.Patterns.{good_pattern, good_atom}
+use Rattle.spec_protocol_grammar.proofs.Patterns.{patterns_list, patterns_there, pattern_arguments_spelled, good_pattern, good_atom}
 
 -- none of the words comes next that a unit may omit a part of
 abbrev pub EndsUnit : Class → Type 0
@@ -47,6 +47,22 @@ beside_back (beside p) = Some p
 beside_there : (b : BesideSketch) → beside_from (beside_back b) ≡ b
 beside_there alone = refl
 beside_there (beside p) = refl
+
+condition_spelled : (l : ℕ) (o : Option (TermSketch × TermSketch)) → condition l (condition_from o) ≡ optional_items l w.Suchthat (then_items (term (l + 1)) l w.Equals (term (l + 1))) o
+condition_spelled l None = refl
+condition_spelled l (Some parts) = refl
+
+abbrev condition_back : ConditionSketch → Option (TermSketch × TermSketch)
+condition_back always = None
+condition_back (such_that t v) = Some (t, v)
+
+condition_there : (c : ConditionSketch) → condition_from (condition_back c) ≡ c
+condition_there always = refl
+condition_there (such_that t v) = refl
+
+-- what may follow the patterns of an entry and the condition
+abbrev EndsEntry : Class → Type 0
+EndsEntry c = NotOpen c × (w.Suchthat ≢ c)
 
 abbrev some_term : TermSketch
 some_term = Named 0 none
@@ -117,6 +133,41 @@ module _ {most : ℕ} (left l : ℕ) (d : left + (l + 1) ≡ 513) (below : Reade
   if_way : Way most (unit l) EndsUnit if_unit (with_place w.If (then_marked (term_at most left) w.Equals (then_marked (term_at most left) w.Then (both below (next_at w.Else below)))))
   if_way = record { items = _; spelled = λ x. refl; good = good_numbered l h w.If refl (good_then l h w.Equals (λ k e. e) refl (λ e. cc) t (good_then l h w.Then (λ k e. e) refl (λ e. cc) t branches)) }
 
+  phase_way : Way most (unit l) EndsUnit phase_unit (with_place w.Phase (with_place w.Number (next_at w.Semicolon below)))
+  phase_way = record { items = _; spelled = λ x. refl; good = good_numbered l h w.Phase refl (good_numbered l h w.Number refl continued) }
+
+  insert_way : Way most (unit l) EndsUnit insert (with_place w.Insert (both (atom_at most left) (next_at w.Semicolon below)))
+  insert_way = record {
+    items = _;
+    spelled = λ x. refl;
+    good = good_numbered l h w.Insert refl
+        (good_inner (atom (l + 1)) (optional_items l w.Semicolon (unit (l + 1))) (atom_at most left) (optional w.Semicolon below) (next w.Semicolon l) next_from (next_spelled w.Semicolon l) next_back next_there
+        (good_followed l h w.Semicolon (λ k e. e) refl (λ c i. i.0) (λ c i. i.1) (λ at e low z. tt) (good_atom most left (l + 1) d) g));
+  }
+
+  -- the two sides of a condition
+  sides : Good most All false (then_items (term (l + 1)) l w.Equals (term (l + 1))) EndsEntry (then_marked (term_at most left) w.Equals (term_at most left))
+  sides = good_firm (λ c i. i.0) (good_then {D = NotOpen} l h w.Equals (λ k e. e) refl (λ e. cc) t t)
+
+  -- the patterns of an entry, and the condition
+  entry : Good most All false (both_items (arguments_items l (pattern (l + 1))) (condition l)) EndsEntry (both (arguments_at most (pattern_at most left)) (condition_at most left))
+  entry = good_inner (arguments_items l (pattern (l + 1))) (optional_items l w.Suchthat (then_items (term (l + 1)) l w.Equals (term (l + 1))))
+      (arguments_at most (pattern_at most left)) (optional w.Suchthat (then_marked (term_at most left) w.Equals (term_at most left)))
+      (condition l) condition_from (condition_spelled l) condition_back condition_there
+      (good_followed l h w.Suchthat (λ k e. e) refl (λ c i. i.0) (λ c i. i.1) (λ at e low z. tt) (good_arguments l h p) sides)
+
+  get_spelled : (x : ℕ × (ℕ × ((List PatternSketch × ConditionSketch) × (UnitSketch × NextSketch))))
+      → unit l (get_unit x) ≡ numbered_items l w.Get (numbered_items l w.Name (then_items (both_items (arguments_items l (pattern (l + 1))) (condition l)) l w.In (both_items (unit (l + 1)) (next w.Else l)))) x
+  get_spelled x =
+      ap (λ is. kept l x.0 w.Get ∷ kept l x.1.0 w.Name ∷ ((is ++ condition l x.1.1.0.1) ++ (word l w.In ∷ (unit (l + 1) x.1.1.1.0 ++ next w.Else l x.1.1.1.1)))) (pattern_arguments_spelled l x.1.1.0.0)
+
+  get_way : Way most (unit l) EndsUnit get_unit (with_place w.Get (with_place w.Name (then_marked (both (arguments_at most (pattern_at most left)) (condition_at most left)) w.In (both below (next_at w.Else below)))))
+  get_way = record {
+    items = _;
+    spelled = get_spelled;
+    good = good_numbered l h w.Get refl (good_numbered l h w.Name refl (good_then l h w.In (λ k e. e) refl (λ e. cc, λ e. cc) entry branches));
+  }
+
   unit_sound : (c : Class) → Sound false (unit l) EndsUnit (unit_by most left below inside c)
   unit_sound w.Zero = way_sound zero_way
   unit_sound w.Name = way_sound macro_way
@@ -128,6 +179,9 @@ module _ {most : ℕ} (left l : ℕ) (d : left + (l + 1) ≡ 513) (below : Reade
   unit_sound w.Event = way_sound happens_way
   unit_sound w.Let = way_sound let_way
   unit_sound w.If = way_sound if_way
+  unit_sound w.Phase = way_sound phase_way
+  unit_sound w.Insert = way_sound insert_way
+  unit_sound w.Get = way_sound get_way
   unit_sound _ = refused_sound false (unit l) EndsUnit (Zero 0) (λ s at. inl refl) (λ c i. tt)
 
   abbrev by : Class → Reader UnitSketch
@@ -144,6 +198,11 @@ module _ {most : ℕ} (left l : ℕ) (d : left + (l + 1) ≡ 513) (below : Reade
   unit_complete s at (Happens n a k) end low z y = way_complete by w.Event (λ k e. e) happens_way (λ s at. refl) s at (n, (a, k)) end z.0.1 z y
   unit_complete s at (Let n p t u k) end low z y = way_complete by w.Let (λ k e. e) let_way (λ s at. refl) s at (n, (p, (t, (u, k)))) end z.0.1 z y
   unit_complete s at (If n t v u k) end low z y = way_complete by w.If (λ k e. e) if_way (λ s at. refl) s at (n, (t, (v, (u, k)))) end z.0.1 z y
+  unit_complete s at (Phase n x k) end low z y = way_complete by w.Phase (λ k e. e) phase_way (λ s at. refl) s at (n, (x, k)) end z.0.1 z y
+  unit_complete s at (Insert n a k) end low z y = way_complete by w.Insert (λ k e. e) insert_way (λ s at. refl) s at (n, (a, k)) end z.0.1 z y
+  unit_complete s at (Get n t ps c u k) end low z y =
+      let P : PatternsSketch → Type 0 = λ ps. Words s at (unit l (Get n t ps c u k)) end → IsGreedy (unit l (Get n t ps c u k)) (s end).class → Outcome most s at (unit l (Get n t ps c u k)) (Get n t ps c u k) end (by (s at).class s at) in
+      subst P (patterns_there ps) (λ z y. way_complete by w.Get (λ k e. e) get_way (λ s at. refl) s at (n, (t, ((patterns_list ps, c), (u, k)))) end z.0.1 z y) z y
 
   unit_level : Good most All false (unit l) EndsUnit (λ s at. by (s at).class s at)
   unit_level = record { some = Zero 0; some_firm = λ c i. tt; sound = choice_sound unit_sound; complete = unit_complete }
@@ -170,6 +229,9 @@ module _ (l : ℕ) (h : most_levels < l) where
   unit_begun s at w.Event e b = record { other = Happens (s at).number (record { first = 0; arguments = none }) omitted; deep = ((refl, fit s at w.Event e), inl (h, refl)); firm = λ c i. (i.0, (i.1, tt)) }
   unit_begun s at w.Let e b = record { other = Let (s at).number (NamedPattern 0 no_patterns) some_term (Zero 0) omitted; deep = ((refl, fit s at w.Let e), inl (h, refl)); firm = λ c i. (λ e. cc, (λ e. cc, (i.2, tt))) }
   unit_begun s at w.If e b = record { other = If (s at).number some_term some_term (Zero 0) omitted; deep = ((refl, fit s at w.If e), inl (h, refl)); firm = λ c i. (λ e. cc, (λ e. cc, (i.2, tt))) }
+  unit_begun s at w.Phase e b = record { other = Phase (s at).number 0 omitted; deep = ((refl, fit s at w.Phase e), inl (h, refl)); firm = λ c i. (i.1, tt) }
+  unit_begun s at w.Insert e b = record { other = Insert (s at).number (record { first = 0; arguments = none }) omitted; deep = ((refl, fit s at w.Insert e), inl (h, refl)); firm = λ c i. (i.0, (i.1, tt)) }
+  unit_begun s at w.Get e b = record { other = Get (s at).number 0 no_patterns always (Zero 0) omitted; deep = ((refl, fit s at w.Get e), inl (h, refl)); firm = λ c i. (λ e. cc, (λ e. cc, (i.2, tt))) }
   unit_begun s at _ e b = never b
 
   unit_sunk : (s : Source) (at : ℕ) (u : UnitSketch) (end : ℕ) → Words s at (unit l u) end → (begins_unit (s at).class ≡ true) × DeepAt s at (unit l u) at
@@ -183,6 +245,9 @@ module _ (l : ℕ) (h : most_levels < l) where
   unit_sunk s at (Happens n a k) end z = (begins_at begins_unit w.Event (s at).class z.0.1 refl, (z.0, inl (h, refl)))
   unit_sunk s at (Let n p t u k) end z = (begins_at begins_unit w.Let (s at).class z.0.1 refl, (z.0, inl (h, refl)))
   unit_sunk s at (If n t v u k) end z = (begins_at begins_unit w.If (s at).class z.0.1 refl, (z.0, inl (h, refl)))
+  unit_sunk s at (Phase n x k) end z = (begins_at begins_unit w.Phase (s at).class z.0.1 refl, (z.0, inl (h, refl)))
+  unit_sunk s at (Insert n a k) end z = (begins_at begins_unit w.Insert (s at).class z.0.1 refl, (z.0, inl (h, refl)))
+  unit_sunk s at (Get n t ps c u k) end z = (begins_at begins_unit w.Get (s at).class z.0.1 refl, (z.0, inl (h, refl)))
 
   unit_deep : {most : ℕ} → Good most All false (unit l) EndsUnit (deep begins_unit)
   unit_deep = good_deep begins_unit (Zero 0) (λ s at. inl refl) (λ c i. tt) (λ s at b. unit_begun s at (s at).class refl b) unit_sunk

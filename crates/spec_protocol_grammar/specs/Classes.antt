@@ -5,19 +5,21 @@ use Rattle.spec_protocol_tokens.specs.Token.{Token, TokenKind, Identifier, Reser
 use Rattle.spec_protocol_grammar.specs.declared.class.Class.{Class}
 use Rattle.spec_protocol_grammar.specs.declared.class.Class.TheVariants as w
 
--- the class that a table gives a text; Later where it has none
+-- the class that a table gives a text; Other where it has none
 abbrev pub class_among : List (List ℕ × Class) → List ℕ → Class
-class_among [] text = w.Later
+class_among [] text = w.Other
 class_among ((spelling, class) ∷ others) text = if bytes_eq text spelling then class else class_among others text
 
--- the reserved words of the grammar; the others are reserved for later
+-- the reserved words
 abbrev pub reserved_table : List (List ℕ × Class)
 reserved_table =
     (codes "private", w.Private) ∷ (codes "free", w.Free) ∷ (codes "fun", w.Fun) ∷ (codes "data", w.Data) ∷
     (codes "reduc", w.Reduc) ∷ (codes "event", w.Event) ∷ (codes "query", w.Query) ∷
     (codes "attacker", w.Attacker) ∷ (codes "process", w.Process) ∷ (codes "new", w.New) ∷
     (codes "false", w.False) ∷ (codes "let", w.Let) ∷ (codes "in", w.In) ∷ (codes "out", w.Out) ∷
-    (codes "if", w.If) ∷ (codes "then", w.Then) ∷ (codes "else", w.Else) ∷ []
+    (codes "if", w.If) ∷ (codes "then", w.Then) ∷ (codes "else", w.Else) ∷
+    (codes "phase", w.Phase) ∷ (codes "table", w.Table) ∷ (codes "insert", w.Insert) ∷
+    (codes "get", w.Get) ∷ (codes "suchthat", w.Suchthat) ∷ []
 
 -- the symbols
 abbrev pub symbol_table : List (List ℕ × Class)
@@ -69,24 +71,29 @@ code w.Out = 13
 code w.If = 14
 code w.Then = 15
 code w.Else = 16
-code w.Later = 17
-code w.Open = 18
-code w.Close = 19
-code w.Comma = 20
-code w.Semicolon = 21
-code w.Dot = 22
-code w.Slash = 23
-code w.Equals = 24
-code w.Implies = 25
-code w.Bar = 26
-code w.Or = 27
-code w.And = 28
-code w.Bang = 29
-code w.Arrow = 30
-code w.Name = 31
-code w.Zero = 32
-code w.Number = 33
-code w.End = 34
+code w.Phase = 17
+code w.Table = 18
+code w.Insert = 19
+code w.Get = 20
+code w.Suchthat = 21
+code w.Open = 22
+code w.Close = 23
+code w.Comma = 24
+code w.Semicolon = 25
+code w.Dot = 26
+code w.Slash = 27
+code w.Equals = 28
+code w.Implies = 29
+code w.Bar = 30
+code w.Or = 31
+code w.And = 32
+code w.Bang = 33
+code w.Arrow = 34
+code w.Name = 35
+code w.Zero = 36
+code w.Number = 37
+code w.Other = 38
+code w.End = 39
 
 -- whether the two classes are one
 abbrev pub same : Class → Class → Bool

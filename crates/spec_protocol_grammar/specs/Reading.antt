@@ -6,7 +6,7 @@ use Rattle.spec_calculus.specs.Bounds.{most_levels}
 use Rattle.spec_protocol_grammar.specs.declared.class.Class.{Class}
 use Rattle.spec_protocol_grammar.specs.declared.class.Class.TheVariants as w
 use Rattle.spec_protocol_grammar.specs.Classes.{Source, same, fits}
-use Rattle.spec_protocol_grammar.specs.Sketch.{TermSketch, Named, Grouped, PatternSketch, NamedPattern, Equal, GroupedPattern, AtomSketch, ProcessSketch, Process, BesideSketch, alone, beside, UnitSketch, Zero, Macro, Inner, Replicated, New, Output, Input, Happens, Let, If, NextSketch, omitted, given, AlternativeSketch, QuerySketch, AttackerNew, Attacker, Correspondence, RuleSketch, DeclarationSketch, Free, Fun, Data, Reduc, Event, Query, Definition, FileSketch, terms_sketch, patterns_sketch}
+use Rattle.spec_protocol_grammar.specs.Sketch.{TermSketch, Named, Grouped, PatternSketch, NamedPattern, Equal, GroupedPattern, AtomSketch, ConditionSketch, always, such_that, ProcessSketch, Process, BesideSketch, alone, beside, UnitSketch, Zero, Macro, Inner, Replicated, New, Output, Input, Happens, Let, If, Phase, Insert, Get, NextSketch, omitted, given, AlternativeSketch, QuerySketch, AttackerNew, Attacker, Correspondence, RuleSketch, DeclarationSketch, Free, Fun, Data, Reduc, Event, Table, Query, Definition, FileSketch, terms_sketch, patterns_sketch}
 
 -- what reading gives: a value and the place behind it, or a fault at a place. Tired: too many parts in a row
 pub data Read (X : Type 0) : Type 0 where
@@ -148,6 +148,14 @@ unfoldable pub atom_at : ℕ → ℕ → Reader AtomSketch
 atom_at most zero s at = deep begins_atom s at
 atom_at most (suc left) s at = built atom_from (with_place w.Name (arguments_at most (term_at most left))) s at
 
+abbrev pub condition_from : Option (TermSketch × TermSketch) → ConditionSketch
+condition_from None = always
+condition_from (Some parts) = such_that parts.0 parts.1
+
+-- nothing, or `suchthat left = right`, with so many levels left for its terms
+abbrev pub condition_at : ℕ → ℕ → Reader ConditionSketch
+condition_at most left = built condition_from (optional w.Suchthat (then_marked (term_at most left) w.Equals (term_at most left)))
+
 abbrev pub begins_unit : Class → Bool
 begins_unit w.Zero = true
 begins_unit w.Name = true
@@ -159,6 +167,9 @@ begins_unit w.In = true
 begins_unit w.Event = true
 begins_unit w.Let = true
 begins_unit w.If = true
+begins_unit w.Phase = true
+begins_unit w.Insert = true
+begins_unit w.Get = true
 begins_unit _ = false
 
 abbrev pub next_from : Option UnitSketch → NextSketch
@@ -203,6 +214,15 @@ let_unit parts = Let parts.0 parts.1.0 parts.1.1.0 parts.1.1.1.0 parts.1.1.1.1
 abbrev pub if_unit : ℕ × (TermSketch × (TermSketch × (UnitSketch × NextSketch))) → UnitSketch
 if_unit parts = If parts.0 parts.1.0 parts.1.1.0 parts.1.1.1.0 parts.1.1.1.1
 
+abbrev pub phase_unit : ℕ × (ℕ × NextSketch) → UnitSketch
+phase_unit parts = Phase parts.0 parts.1.0 parts.1.1
+
+abbrev pub insert : ℕ × (AtomSketch × NextSketch) → UnitSketch
+insert parts = Insert parts.0 parts.1.0 parts.1.1
+
+abbrev pub get_unit : ℕ × (ℕ × ((List PatternSketch × ConditionSketch) × (UnitSketch × NextSketch))) → UnitSketch
+get_unit parts = Get parts.0 parts.1.0 (patterns_sketch parts.1.1.0.0) parts.1.1.0.1 parts.1.1.1.0 parts.1.1.1.1
+
 -- a unit by the class of its first word
 abbrev pub unit_by : ℕ → ℕ → Reader UnitSketch → Reader ProcessSketch → Class → Reader UnitSketch
 unit_by most left below inside w.Zero = built zero_unit (with_place w.Zero done)
@@ -219,6 +239,10 @@ unit_by most left below inside w.Let =
     built let_unit (with_place w.Let (then_marked (pattern_at most left) w.Equals (then_marked (term_at most left) w.In (both below (next_at w.Else below)))))
 unit_by most left below inside w.If =
     built if_unit (with_place w.If (then_marked (term_at most left) w.Equals (then_marked (term_at most left) w.Then (both below (next_at w.Else below)))))
+unit_by most left below inside w.Phase = built phase_unit (with_place w.Phase (with_place w.Number (next_at w.Semicolon below)))
+unit_by most left below inside w.Insert = built insert (with_place w.Insert (both (atom_at most left) (next_at w.Semicolon below)))
+unit_by most left below inside w.Get =
+    built get_unit (with_place w.Get (with_place w.Name (then_marked (both (arguments_at most (pattern_at most left)) (condition_at most left)) w.In (both below (next_at w.Else below)))))
 unit_by most left below inside _ = refused
 
 abbrev pub process_from : UnitSketch × BesideSketch → ProcessSketch
@@ -262,9 +286,17 @@ unfoldable pub alternatives_at : ℕ → Reader (List AlternativeSketch)
 alternatives_at most s at =
     built alternatives_from (either w.False (then_marked done w.False done) (list_at most w.Or (alternative_at most))) s at
 
-abbrev pub attacker_from : ℕ × (Unit {0} × ((Unit {0} × (ℕ × (Unit {0} × Unit {0}))) ⊎ (TermSketch × Unit {0}))) → QuerySketch
-attacker_from (n, (_, inl name)) = AttackerNew n name.1.0
-attacker_from (n, (_, inr message)) = Attacker n message.0
+abbrev pub phase_from : Option (ℕ × Unit {0}) → Option ℕ
+phase_from None = None
+phase_from (Some parts) = Some parts.0
+
+-- nothing, or `phase number`
+abbrev pub phase_at : Reader (Option ℕ)
+phase_at = built phase_from (optional w.Phase (with_place w.Number done))
+
+abbrev pub attacker_from : ℕ × (Unit {0} × ((Unit {0} × (ℕ × (Unit {0} × Option ℕ))) ⊎ (TermSketch × Option ℕ))) → QuerySketch
+attacker_from (n, (_, inl name)) = AttackerNew n name.1.0 name.1.1.1
+attacker_from (n, (_, inr message)) = Attacker n message.0 message.1
 
 abbrev pub correspondence : ℕ × (AtomSketch × List AlternativeSketch) → QuerySketch
 correspondence parts = Correspondence parts.0 parts.1.0 parts.1.1
@@ -273,7 +305,7 @@ correspondence parts = Correspondence parts.0 parts.1.0 parts.1.1
 abbrev pub question_by : ℕ → Class → Reader QuerySketch
 question_by most w.Attacker =
     built attacker_from (with_place w.Attacker (then_marked done w.Open
-    (either w.New (then_marked done w.New (with_place w.Name (then_marked done w.Close done))) (then_marked (term_at most most_levels) w.Close done))))
+    (either w.New (then_marked done w.New (with_place w.Name (then_marked done w.Close phase_at))) (then_marked (term_at most most_levels) w.Close phase_at))))
 question_by most w.Event = built correspondence (with_place w.Event (then_marked (atom_at most most_levels) w.Implies (alternatives_at most)))
 question_by most _ = refused
 
@@ -312,6 +344,9 @@ data_from parts = Data parts.0 parts.1.0 parts.1.1.1.0
 abbrev pub event_from : ℕ × (ℕ × (Unit {0} × (ℕ × (Unit {0} × Unit {0})))) → DeclarationSketch
 event_from parts = Event parts.0 parts.1.0 parts.1.1.1.0
 
+abbrev pub table_from : ℕ × (ℕ × (Unit {0} × (ℕ × (Unit {0} × Unit {0})))) → DeclarationSketch
+table_from parts = Table parts.0 parts.1.0 parts.1.1.1.0
+
 abbrev pub reduc : ℕ × ((RuleSketch × List RuleSketch) × Unit {0}) → DeclarationSketch
 reduc parts = Reduc parts.0 parts.1.0.0 parts.1.0.1
 
@@ -329,6 +364,7 @@ declaration_by most w.Fun = built (fun true) (with_place w.Fun sized_at)
 declaration_by most w.Data = built data_from (with_place w.Data sized_at)
 declaration_by most w.Reduc = built reduc (with_place w.Reduc (then_marked (list_at most w.Semicolon (rule_at most)) w.Dot done))
 declaration_by most w.Event = built event_from (with_place w.Event sized_at)
+declaration_by most w.Table = built table_from (with_place w.Table sized_at)
 declaration_by most w.Query = built query (with_place w.Query (then_marked (question_at most) w.Dot done))
 declaration_by most w.Let = built definition (with_place w.Let (with_place w.Name (then_marked done w.Equals (then_marked (process_at most most_levels) w.Dot done))))
 declaration_by most _ = refused

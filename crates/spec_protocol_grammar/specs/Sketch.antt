@@ -1,6 +1,6 @@
 -- What the grammar makes of a file: one variant for each alternative that it has, with the number of its first token
 -- and its parts in source order. Identifiers and numbers are the numbers of their tokens, from 0.
-use Rattle.std.specs.Prelude.{ℕ, Bool, List, [], ◌∷◌}
+use Rattle.std.specs.Prelude.{ℕ, Bool, List, [], ◌∷◌, Option}
 
 mutual
   -- a term
@@ -34,6 +34,13 @@ mutual
 pub record AtomSketch : Type 0 where
   pub first : ℕ
   pub arguments : TermsSketch
+
+-- what is asked of an entry besides its patterns
+pub data ConditionSketch : Type 0 where
+  -- nothing
+  always : ConditionSketch
+  -- `suchthat left = right`
+  such_that : (left right : TermSketch) → ConditionSketch
 
 mutual
   -- a process: a unit, and what runs beside it
@@ -69,6 +76,12 @@ mutual
     Let : (first : ℕ) → (pattern : PatternSketch) → (term : TermSketch) → (unit : UnitSketch) → (otherwise : NextSketch) → UnitSketch
     -- `if left = right then unit`, and its else branch
     If : (first : ℕ) → (left right : TermSketch) → (unit : UnitSketch) → (otherwise : NextSketch) → UnitSketch
+    -- `phase number`
+    Phase : (first number : ℕ) → (next : NextSketch) → UnitSketch
+    -- `insert table(arguments)`
+    Insert : (first : ℕ) → (entry : AtomSketch) → (next : NextSketch) → UnitSketch
+    -- `get table(patterns) in unit`, with a condition and its else branch
+    Get : (first table : ℕ) → (patterns : PatternsSketch) → (condition : ConditionSketch) → (unit : UnitSketch) → (otherwise : NextSketch) → UnitSketch
 
   -- a continuation, or an else branch
   pub data NextSketch : Type 0 where
@@ -82,12 +95,12 @@ pub record AlternativeSketch : Type 0 where
   pub atom : AtomSketch
   pub others : List AtomSketch
 
--- what a query asks
+-- what a query asks; of secrets with the number behind the word `phase`, if there is one
 pub data QuerySketch : Type 0 where
   -- `attacker(new name)`
-  AttackerNew : (first name : ℕ) → QuerySketch
+  AttackerNew : (first name : ℕ) → (phase : Option ℕ) → QuerySketch
   -- `attacker(message)`
-  Attacker : (first : ℕ) → (message : TermSketch) → QuerySketch
+  Attacker : (first : ℕ) → (message : TermSketch) → (phase : Option ℕ) → QuerySketch
   -- `event atom ==> alternatives`, or `event atom ==> false` where there are none
   Correspondence : (first : ℕ) → (atom : AtomSketch) → (alternatives : List AlternativeSketch) → QuerySketch
 
@@ -109,6 +122,8 @@ pub data DeclarationSketch : Type 0 where
   Reduc : (first : ℕ) → (rule : RuleSketch) → (others : List RuleSketch) → DeclarationSketch
   -- `event name/arity.`
   Event : (first name arity : ℕ) → DeclarationSketch
+  -- `table name/arity.`
+  Table : (first name arity : ℕ) → DeclarationSketch
   -- `query question.`
   Query : (first : ℕ) → (question : QuerySketch) → DeclarationSketch
   -- `let name = process.`

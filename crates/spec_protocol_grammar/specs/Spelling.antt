@@ -6,7 +6,7 @@ use Rattle.spec_calculus.specs.Bounds.{most_levels}
 use Rattle.spec_protocol_grammar.specs.declared.class.Class.{Class}
 use Rattle.spec_protocol_grammar.specs.declared.class.Class.TheVariants as w
 use Rattle.spec_protocol_grammar.specs.Classes.{Word, Source, fits}
-use Rattle.spec_protocol_grammar.specs.Sketch.{TermSketch, Named, Grouped, TermsSketch, none, more, PatternSketch, NamedPattern, Equal, GroupedPattern, PatternsSketch, no_patterns, more_patterns, AtomSketch, ProcessSketch, Process, BesideSketch, alone, beside, UnitSketch, Zero, Macro, Inner, Replicated, New, Output, Input, Happens, Let, If, NextSketch, omitted, given, AlternativeSketch, QuerySketch, AttackerNew, Attacker, Correspondence, RuleSketch, DeclarationSketch, Free, Fun, Data, Reduc, Event, Query, Definition, FileSketch}
+use Rattle.spec_protocol_grammar.specs.Sketch.{TermSketch, Named, Grouped, TermsSketch, none, more, PatternSketch, NamedPattern, Equal, GroupedPattern, PatternsSketch, no_patterns, more_patterns, AtomSketch, ConditionSketch, always, such_that, ProcessSketch, Process, BesideSketch, alone, beside, UnitSketch, Zero, Macro, Inner, Replicated, New, Output, Input, Happens, Let, If, Phase, Insert, Get, NextSketch, omitted, given, AlternativeSketch, QuerySketch, AttackerNew, Attacker, Correspondence, RuleSketch, DeclarationSketch, Free, Fun, Data, Reduc, Event, Table, Query, Definition, FileSketch}
 
 -- what a sketch wants at a place of the file
 pub data Item : Type 0 where
@@ -72,6 +72,11 @@ abbrev mutual
 abbrev pub atom : ℕ → AtomSketch → List Item
 atom l a = kept l a.first w.Name ∷ arguments l a.arguments
 
+-- nothing, or `suchthat left = right`
+abbrev pub condition : ℕ → ConditionSketch → List Item
+condition l always = no w.Suchthat ∷ []
+condition l (such_that t v) = word l w.Suchthat ∷ (term (l + 1) t ++ (word l w.Equals ∷ term (l + 1) v))
+
 abbrev mutual
   -- a unit, and what runs beside it
   pub process : ℕ → ProcessSketch → List Item
@@ -94,6 +99,9 @@ abbrev mutual
   unit l (Happens n a k) = kept l n w.Event ∷ (atom (l + 1) a ++ next w.Semicolon l k)
   unit l (Let n p t u k) = kept l n w.Let ∷ (pattern (l + 1) p ++ (word l w.Equals ∷ (term (l + 1) t ++ (word l w.In ∷ (unit (l + 1) u ++ next w.Else l k)))))
   unit l (If n t v u k) = kept l n w.If ∷ (term (l + 1) t ++ (word l w.Equals ∷ (term (l + 1) v ++ (word l w.Then ∷ (unit (l + 1) u ++ next w.Else l k)))))
+  unit l (Phase n x k) = kept l n w.Phase ∷ kept l x w.Number ∷ next w.Semicolon l k
+  unit l (Insert n a k) = kept l n w.Insert ∷ (atom (l + 1) a ++ next w.Semicolon l k)
+  unit l (Get n t ps c u k) = kept l n w.Get ∷ kept l t w.Name ∷ ((pattern_arguments l ps ++ condition l c) ++ (word l w.In ∷ (unit (l + 1) u ++ next w.Else l k)))
 
   -- nothing, or a unit behind `;` or `else`
   pub next : Class → ℕ → NextSketch → List Item
@@ -122,10 +130,15 @@ abbrev pub alternatives : List AlternativeSketch → List Item
 alternatives [] = word 0 w.False ∷ []
 alternatives (first ∷ others) = alternative first ++ more_of 0 w.Or alternative others
 
+-- nothing, or `phase number`
+abbrev pub asked_phase : Option ℕ → List Item
+asked_phase None = no w.Phase ∷ []
+asked_phase (Some x) = word 0 w.Phase ∷ kept 0 x w.Number ∷ []
+
 -- one line for each kind of query
 abbrev pub question : QuerySketch → List Item
-question (AttackerNew n x) = kept 0 n w.Attacker ∷ word 0 w.Open ∷ word 0 w.New ∷ kept 0 x w.Name ∷ word 0 w.Close ∷ []
-question (Attacker n t) = kept 0 n w.Attacker ∷ word 0 w.Open ∷ (term 1 t ++ (word 0 w.Close ∷ []))
+question (AttackerNew n x o) = kept 0 n w.Attacker ∷ word 0 w.Open ∷ word 0 w.New ∷ kept 0 x w.Name ∷ word 0 w.Close ∷ asked_phase o
+question (Attacker n t o) = kept 0 n w.Attacker ∷ word 0 w.Open ∷ (term 1 t ++ (word 0 w.Close ∷ asked_phase o))
 question (Correspondence n a others) = kept 0 n w.Event ∷ (atom 1 a ++ (word 0 w.Implies ∷ alternatives others))
 
 -- `name(arguments) -> result`
@@ -148,6 +161,7 @@ declaration (Fun n public x a) = visible n public w.Fun (sized x a)
 declaration (Data n x a) = kept 0 n w.Data ∷ sized x a
 declaration (Reduc n r rs) = kept 0 n w.Reduc ∷ ((rule r ++ more_of 0 w.Semicolon rule rs) ++ (word 0 w.Dot ∷ []))
 declaration (Event n x a) = kept 0 n w.Event ∷ sized x a
+declaration (Table n x a) = kept 0 n w.Table ∷ sized x a
 declaration (Query n q) = kept 0 n w.Query ∷ (question q ++ (word 0 w.Dot ∷ []))
 declaration (Definition n x p) = kept 0 n w.Let ∷ kept 0 x w.Name ∷ word 0 w.Equals ∷ (process 1 p ++ (word 0 w.Dot ∷ []))
 
@@ -190,8 +204,8 @@ first_of (one level number class ∷ items) behind = class
 first_of (no class ∷ items) behind = first_of items behind
 first_of (nothing ∷ items) behind = first_of items behind
 
--- a part is omitted only where its first word does not come next, so an `else` belongs to the nearest `let` or `if`
--- that has none; nothing else that may be omitted can come next. No list is empty that may not be
+-- a part is omitted only where its first word does not come next, so an `else` belongs to the nearest `let`, `if` or
+-- `get` that has none; nothing else that may be omitted can come next. No list is empty that may not be
 abbrev pub IsGreedy : List Item → Class → Type 0
 IsGreedy [] behind = Unit {0}
 IsGreedy (one level number class ∷ items) behind = IsGreedy items behind

@@ -35,8 +35,16 @@ pub enum Class {
     Then,
     /// The reserved word `else`.
     Else,
-    /// A word that is reserved for later: `phase`, `table`, `insert`, `get` or `suchthat`.
-    Later,
+    /// The reserved word `phase`.
+    Phase,
+    /// The reserved word `table`.
+    Table,
+    /// The reserved word `insert`.
+    Insert,
+    /// The reserved word `get`.
+    Get,
+    /// The reserved word `suchthat`.
+    Suchthat,
     /// The symbol `(`.
     Open,
     /// The symbol `)`.
@@ -69,6 +77,8 @@ pub enum Class {
     Zero,
     /// Any other number.
     Number,
+    /// A text that is none of these; no token of a file has it.
+    Other,
     /// The end of the file, which is no token.
     End,
 }

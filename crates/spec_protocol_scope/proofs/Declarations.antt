@@ -36,8 +36,8 @@ wider_destructor a b widens d h = record { proper = h.proper; uniform = h.unifor
 abbrev pub IsWordOf : (ℕ → Type 0) → Texts → List ℕ → Type 0
 IsWordOf IsName text word = (n : ℕ) × IsName n × (text n ≡ word)
 
--- what is declared is as it should be, where each token that declares a name is such
-pub record AreDeclared (IsName : ℕ → Type 0) (text : Texts) (names : Names) : Type 0 where
+-- what is declared is as it should be, where each token that declares a name is such; and no table, where the file is plain
+pub record AreDeclared (IsName : ℕ → Type 0) (Plain : Type 0) (text : Texts) (names : Names) : Type 0 where
   pub few : count_of names ≤ most_names
   pub frees : AllByRecursion (λ d. IsWordOf IsName text d.word × (is_variable d.word ≡ false)) names.frees
   pub constructors : AllByRecursion (λ d. IsWordOf IsName text d.word × (is_variable d.word ≡ false)) names.constructors
@@ -46,7 +46,10 @@ pub record AreDeclared (IsName : ℕ → Type 0) (text : Texts) (names : Names) 
   pub rules : AllByRecursion (IsDestructorOver (signature_with names)) names.destructors
   pub events : AllByRecursion (λ d. IsWordOf IsName text d.word) names.events
   pub event_arities : AllByRecursion (λ d. d.arity ≤ most_arguments) names.events
-  pub macros : AllByRecursion (λ m. IsSolidProcess IsName m.body) names.macros
+  pub tables : AllByRecursion (λ d. IsWordOf IsName text d.word) names.tables
+  pub table_arities : AllByRecursion (λ d. d.arity ≤ most_arguments) names.tables
+  pub no_tables : Plain → names.tables ≡ []
+  pub macros : AllByRecursion (λ m. IsSolidProcess IsName Plain m.body) names.macros
 
 -- a new name
 pub record IsNew (s : Scope) (n : ℕ) (word : List ℕ) : Type 0 where

@@ -9,8 +9,8 @@ use Rattle.spec_calculus.specs.Points.{numbered}
 use Rattle.spec_well_formed.specs.Signature.{Signature}
 use Rattle.spec_well_formed.specs.Words.{DeclaredName, word_of, AreDistinct}
 use Rattle.spec_well_formed.specs.Words as declared
-use Rattle.spec_protocol_grammar.specs.Sketch.{ProcessSketch, RuleSketch, DeclarationSketch, Free, Fun, Data, Reduc, Event, Query, Definition}
-use Rattle.spec_protocol_scope.specs.Names.{signature_with, Names, Scope, Texts, no_names, find_from, declared_meaning, MeansFree, MeansConstructor, MeansDestructor, MeansEvent, arity_of}
+use Rattle.spec_protocol_grammar.specs.Sketch.{ProcessSketch, RuleSketch, DeclarationSketch, Free, Fun, Data, Reduc, Event, Table, Query, Definition}
+use Rattle.spec_protocol_scope.specs.Names.{signature_with, Names, Scope, Texts, no_names, find_from, declared_meaning, MeansFree, MeansConstructor, MeansDestructor, MeansEvent, MeansTable, arity_of}
 use Rattle.spec_protocol_scope.specs.Declarations as rules
 use Rattle.spec_protocol_scope.specs.Declarations.{among}
 use Rattle.spec_protocol_scope.proofs.Stepped.{stepped, kept, found_one}
@@ -45,6 +45,7 @@ record Unfound (names : Names) (word : List ℕ) : Type 0 where
   constructors : is_some (find_from (λ d. d.word) 1 names.constructors word) ≡ false
   destructors : is_some (find_from (λ d. d.word) 1 names.destructors word) ≡ false
   events : is_some (find_from (λ d. d.word) 1 names.events word) ≡ false
+  tables : is_some (find_from (λ d. d.word) 1 names.tables word) ≡ false
 
 unfound : (names : Names) (word : List ℕ) → is_some (declared_meaning names word) ≡ false → Unfound names word
 unfound names word none =
@@ -52,14 +53,17 @@ unfound names word none =
     let constructor = λ (f : ℕ × calculus.Declared). MeansConstructor f.0 f.1.arity f.1.is_data in
     let destructor = λ (f : ℕ × calculus.Destructor). MeansDestructor f.0 (arity_of f.1.rules) in
     let event = λ (f : ℕ × calculus.Declared). MeansEvent f.0 f.1.arity in
+    let table = λ (f : ℕ × calculus.Declared). MeansTable f.0 f.1.arity in
     let a = none_of (option_map free (find_from (λ d. d.word) 1 names.frees word)) _ none in
     let b = none_of (option_map constructor (find_from (λ d. d.word) 1 names.constructors word)) _ a.1 in
-    let c = none_of (option_map destructor (find_from (λ d. d.word) 1 names.destructors word)) (option_map event (find_from (λ d. d.word) 1 names.events word)) b.1 in
+    let c = none_of (option_map destructor (find_from (λ d. d.word) 1 names.destructors word)) _ b.1 in
+    let d = none_of (option_map event (find_from (λ d. d.word) 1 names.events word)) (option_map table (find_from (λ d. d.word) 1 names.tables word)) c.1 in
     record {
       frees = none_mapped free (find_from (λ d. d.word) 1 names.frees word) a.0;
       constructors = none_mapped constructor (find_from (λ d. d.word) 1 names.constructors word) b.0;
       destructors = none_mapped destructor (find_from (λ d. d.word) 1 names.destructors word) c.0;
-      events = none_mapped event (find_from (λ d. d.word) 1 names.events word) c.1;
+      events = none_mapped event (find_from (λ d. d.word) 1 names.events word) d.0;
+      tables = none_mapped table (find_from (λ d. d.word) 1 names.tables word) d.1;
     }
 
 unfound_fresh : (names : Names) (word : List ℕ) → Unfound names word → (x : DeclaredName) → word_of (signature_with names) x ≡ Some word → ⊥
@@ -67,7 +71,7 @@ unfound_fresh names word u (declared.Free number) e = none_numbered (λ d. d.wor
 unfound_fresh names word u (declared.Constructor number) e = none_numbered (λ d. d.word) names.constructors word u.constructors number e
 unfound_fresh names word u (declared.Destructor number) e = none_numbered (λ d. d.word) names.destructors word u.destructors number e
 unfound_fresh names word u (declared.Event number) e = none_numbered (λ d. d.word) names.events word u.events number e
-unfound_fresh names word u (declared.Table number) e = none_numbered {X = calculus.Declared} (λ d. d.word) [] word refl number e
+unfound_fresh names word u (declared.Table number) e = none_numbered (λ d. d.word) names.tables word u.tables number e
 
 fresh : (s : Scope) (n : ℕ) (word : List ℕ) → IsNew s n word → (x : DeclaredName) → word_of (signature_with s.names) x ≡ Some word → ⊥
 fresh s n word new x e =
@@ -128,6 +132,13 @@ adds_event names d (declared.Destructor number) w e = inl e
 adds_event names d (declared.Event number) w e = elim (last_number (λ d. d.word) names.events d number w e) [ inl h ↦ inl h | inr h ↦ inr (ap declared.Event h.0, h.1) ]
 adds_event names d (declared.Table number) w e = inl e
 
+adds_table : (names : Names) (d : calculus.Declared) → Adds (signature_with names) (signature_with (rules.with_table names d)) (declared.Table (suc (length names.tables))) d.word
+adds_table names d (declared.Free number) w e = inl e
+adds_table names d (declared.Constructor number) w e = inl e
+adds_table names d (declared.Destructor number) w e = inl e
+adds_table names d (declared.Event number) w e = inl e
+adds_table names d (declared.Table number) w e = elim (last_number (λ d. d.word) names.tables d number w e) [ inl h ↦ inl h | inr h ↦ inr (ap declared.Table h.0, h.1) ]
+
 abbrev Distinct : Names → Type 0
 Distinct names = AreDistinct (signature_with names)
 
@@ -186,6 +197,16 @@ module _ (text : Texts) where
         subst Distinct (ap (rules.with_event names) (found_one d a.value c.later) ∙ found_one (rules.with_event names a.value) next a.later)
         (distinct_more (signature_with names) (signature_with (rules.with_event names d)) (declared.Event (suc (length names.events))) b.value distinct (fresh (among text names) n b.value new) (adds_event names d))
 
+    table : (n size : ℕ) (next : Names) → rules.declare_table text names n size ≡ Ok next → Distinct next
+    table n size next e =
+        let a = stepped (rules.event (among text names) n size) _ next e in
+        let b = stepped (rules.new_name (among text names) n) _ a.value a.first in
+        let c = stepped (rules.arity text size) _ a.value b.later in
+        let new = new_name (among text names) n b.value b.first in
+        let d : calculus.Declared = record { word = b.value; arity = c.value; public = true; is_data = false } in
+        subst Distinct (ap (rules.with_table names) (found_one d a.value c.later) ∙ found_one (rules.with_table names a.value) next a.later)
+        (distinct_more (signature_with names) (signature_with (rules.with_table names d)) (declared.Table (suc (length names.tables))) b.value distinct (fresh (among text names) n b.value new) (adds_table names d))
+
     macro : (n : ℕ) (body : ProcessSketch) (next : Names) → rules.declare_macro text names n body ≡ Ok next → Distinct next
     macro n body next e =
         let a = stepped (rules.new_name (among text names) n) _ next e in
@@ -203,6 +224,7 @@ module _ (text : Texts) where
   one (Data n x a) names distinct next e = constructor names distinct true true x a next e
   one (Reduc n r rs) names distinct next e = destructor names distinct n r rs next e
   one (Event n x a) names distinct next e = event names distinct x a next e
+  one (Table n x a) names distinct next e = table names distinct x a next e
   one (Query n q) names distinct next e = subst Distinct (found_one names next e) distinct
   one (Definition n x body) names distinct next e = macro names distinct x body next e
 

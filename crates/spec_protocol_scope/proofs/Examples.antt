@@ -1,5 +1,5 @@
 -- Small files, worked out by hand.
-use Rattle.std.proofs.Common.{◌≡◌, ℕ, zero, suc, true, false, List, [], ◌∷◌, codes, slice_get, unwrap_or, Ok, refl}
+use Rattle.std.proofs.Common.{◌≡◌, ℕ, zero, suc, true, false, List, [], ◌∷◌, None, codes, slice_get, unwrap_or, Ok, refl}
 use Rattle.spec_trees.specs.Tree.{Leaf, node}
 use Rattle.spec_calculus.specs.Syntax as calculus
 use Rattle.spec_protocol_grammar.specs.Sketch.{TermSketch, Named, Grouped, none, more, NamedPattern, no_patterns, ProcessSketch, Process, alone, beside, UnitSketch, Zero, Macro, Replicated, New, Output, Input, Let, omitted, given, AttackerNew, Free, Fun, Reduc, Query, Definition, FileSketch}
@@ -35,7 +35,7 @@ abbrev two_keys : Texts
 two_keys = texts (codes "free" ∷ codes "c" ∷ codes "." ∷ codes "query" ∷ codes "attacker" ∷ codes "(" ∷ codes "new" ∷ codes "k" ∷ codes ")" ∷ codes "." ∷ codes "process" ∷ codes "new" ∷ codes "k" ∷ codes ";" ∷ codes "out" ∷ codes "(" ∷ codes "c" ∷ codes "," ∷ codes "k" ∷ codes ")" ∷ codes "|" ∷ codes "new" ∷ codes "k" ∷ codes ";" ∷ codes "0" ∷ [])
 
 two_keys_are : scope two_keys (record {
-  declarations = Free 0 true 1 [] ∷ Query 3 (AttackerNew 4 7) ∷ [];
+  declarations = Free 0 true 1 [] ∷ Query 3 (AttackerNew 4 7 None) ∷ [];
   first = 10;
   main = Process (New 11 12 (given (Output 14 (Named 16 none) (Named 18 none) omitted))) (beside (Process (New 21 22 (given (Zero 24))) alone));
 })
@@ -44,7 +44,7 @@ two_keys_are = refl
 
 -- the same with the first restriction alone: its point is the first
 one_key_is : scope two_keys (record {
-  declarations = Free 0 true 1 [] ∷ Query 3 (AttackerNew 4 7) ∷ [];
+  declarations = Free 0 true 1 [] ∷ Query 3 (AttackerNew 4 7 None) ∷ [];
   first = 10;
   main = Process (New 11 12 (given (Output 14 (Named 16 none) (Named 18 none) omitted))) alone;
 })

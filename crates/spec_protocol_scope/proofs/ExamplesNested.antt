@@ -30,6 +30,7 @@ names = record {
   constructors = record { word = codes "enc"; arity = 2; public = true; is_data = false } ∷ [];
   destructors = record { word = codes "dec"; rules = decryption ∷ [] } ∷ record { word = codes "one"; rules = identity ∷ [] } ∷ record { word = codes "many"; rules = copies 16 identity } ∷ [];
   events = record { word = codes "begin"; arity = 1; public = true; is_data = false } ∷ [];
+  tables = [];
   macros = [];
 }
 
@@ -108,11 +109,11 @@ outer_first = refl
 not_in_a_pattern : pattern s [] 1 [] (Equal 5 (of_two 3 c k)) ≡ fault Kind 3
 not_in_a_pattern = refl
 
-not_in_an_if : unit s no_macros (record { bound = []; above = 0; used = None }) (record { point = 1; variable = 1 }) (If 5 (of_two 3 c k) c (Zero 5) omitted) ≡ fault Kind 3
+not_in_an_if : unit s no_macros (record { bound = []; above = 0; used = None; phase = 0 }) (record { point = 1; variable = 1 }) (If 5 (of_two 3 c k) c (Zero 5) omitted) ≡ fault Kind 3
 not_in_an_if = refl
 
 -- the pattern's faults come first: let =x = dec(c) in 0
-pattern_first : unit s no_macros (record { bound = []; above = 0; used = None }) (record { point = 1; variable = 1 }) (Let 5 (Equal 5 (Named 11 none)) (of_one 3 c) (Zero 5) omitted) ≡ fault Unknown 11
+pattern_first : unit s no_macros (record { bound = []; above = 0; used = None; phase = 0 }) (record { point = 1; variable = 1 }) (Let 5 (Equal 5 (Named 11 none)) (of_one 3 c) (Zero 5) omitted) ≡ fault Unknown 11
 pattern_first = refl
 
 -- sixteen applications, and seventeen; the place is the first token of the whole, parentheses round it counted

@@ -16,7 +16,7 @@ use Rattle.spec_well_formed.specs.Leaves.{leaves, leaves_of}
 use Rattle.spec_well_formed.specs.Terms.{EachSymbol, EachSymbolInRow, TakesArguments, TakesParts, HasRulesFor, rule_count, expression_size, IsKnown, IsMerged, IsMergedRow, IsTermBelow, IsExpressionBelow}
 use Rattle.spec_protocol_grammar.specs.Sketch.{TermSketch, Named, Grouped, TermsSketch, none, more}
 use Rattle.spec_protocol_scope.specs.Answers.{◌>>=◌}
-use Rattle.spec_protocol_scope.specs.Names.{signature_with, Scope, Meaning, MeansFree, MeansConstructor, MeansDestructor, MeansEvent, MeansMacro, look, Bound, arity_of}
+use Rattle.spec_protocol_scope.specs.Names.{signature_with, Scope, Meaning, MeansFree, MeansConstructor, MeansDestructor, MeansEvent, MeansTable, MeansMacro, look, Bound, arity_of}
 use Rattle.spec_protocol_scope.specs.Terms as terms
 use Rattle.spec_protocol_scope.specs.Terms.{count}
 use Rattle.spec_protocol_scope.specs.Expressions as rules
@@ -143,6 +143,7 @@ module _ (s : Scope) (uniform : AllByRecursion (λ d. AreUniform d.rules) s.name
   root_takes n given (Some (MeansFree i)) root is e = built_root n given (Some (MeansFree i)) root is e
   root_takes n given (Some (MeansConstructor i arity is_data)) root is e = built_root n given (Some (MeansConstructor i arity is_data)) root is e
   root_takes n given (Some (MeansEvent i arity)) root is e = built_root n given (Some (MeansEvent i arity)) root is e
+  root_takes n given (Some (MeansTable i arity)) root is e = built_root n given (Some (MeansTable i arity)) root is e
   root_takes n given (Some MeansMacro) root is e = built_root n given (Some MeansMacro) root is e
 
   -- what is read of a row: parts, as many as its sketch has

@@ -38,7 +38,7 @@ among_not ((spelling, class) ∷ others) word h = either (bytes_eq word spelling
 
 reserved_not : (word : List ℕ) → names (reserved_class word) ≡ false
 unfolding reserved_class
-reserved_not word = among_not reserved_table word (refl, (refl, (refl, (refl, (refl, (refl, (refl, (refl, (refl, (refl, (refl, (refl, (refl, (refl, (refl, (refl, (refl, tt)))))))))))))))))
+reserved_not word = among_not reserved_table word (refl, (refl, (refl, (refl, (refl, (refl, (refl, (refl, (refl, (refl, (refl, (refl, (refl, (refl, (refl, (refl, (refl, (refl, (refl, (refl, (refl, (refl, tt))))))))))))))))))))))
 
 symbol_not : (symbol : List ℕ) → names (symbol_class symbol) ≡ false
 unfolding symbol_class

@@ -11,7 +11,7 @@ use Rattle.spec_well_formed.specs.Rules.{IsVariable}
 use Rattle.spec_well_formed.specs.Queries.{IsFreeOrVariable}
 use Rattle.spec_well_formed.specs.Terms.{row_length, EachSymbolInRow, HasArity, TakesArguments, IsTermOver, IsKnown}
 use Rattle.spec_protocol_scope.specs.Answers.{Answer, Kind, Unknown, Arity, LooseVariable, fault}
-use Rattle.spec_protocol_scope.specs.Names.{signature_with, Scope, Texts, Meaning, MeansFree, MeansConstructor, MeansDestructor, MeansEvent, MeansMacro, look, variable_of, Bound, bound_as, same_text}
+use Rattle.spec_protocol_scope.specs.Names.{signature_with, Scope, Texts, Meaning, MeansFree, MeansConstructor, MeansDestructor, MeansEvent, MeansTable, MeansMacro, look, variable_of, Bound, bound_as, same_text}
 use Rattle.spec_protocol_scope.specs.Terms as rules
 use Rattle.spec_protocol_scope.specs.Terms.{Setting, InProcess, OnLeft, OnRight, InEvent}
 use Rattle.spec_protocol_scope.proofs.Stepped.{stepped, passed, faulty, found_one}
@@ -110,6 +110,7 @@ module _ (s : Scope) where
       subst (IsTermOver signature IsLeaf) (sym p.1) (over_constant signature IsLeaf k (looked_arity s n k arity 0 is_data is (equal arity 0 p.0)))
   declared_over IsLeaf free n (MeansDestructor k arity) t is e = absurd (faulty Kind n t e)
   declared_over IsLeaf free n (MeansEvent k arity) t is e = absurd (faulty Kind n t e)
+  declared_over IsLeaf free n (MeansTable k arity) t is e = absurd (faulty Kind n t e)
   declared_over IsLeaf free n MeansMacro t is e = absurd (faulty Kind n t e)
 
   unbound_over : (IsLeaf : Name → Type 0) (free : (k : ℕ) → (0 < k) × (k ≤ length s.names.frees) → IsLeaf (Free k)) (n : ℕ) (o : Option Meaning) (t : Term)
@@ -148,6 +149,7 @@ module _ (s : Scope) where
   constant_of_over n (Some (MeansFree number)) k is e = absurd (let same = e in cc)
   constant_of_over n (Some (MeansDestructor number arity)) k is e = absurd (let same = e in cc)
   constant_of_over n (Some (MeansEvent number arity)) k is e = absurd (let same = e in cc)
+  constant_of_over n (Some (MeansTable number arity)) k is e = absurd (let same = e in cc)
   constant_of_over n (Some MeansMacro) k is e = absurd (let same = e in cc)
 
   rule_leaf_over : (o : Option ℕ) (v : List ℕ) (other : Answer (Term × List ℕ)) (read : Term × List ℕ) → ((k : ℕ) → o ≡ Some k → HasArity s.names.constructors k 0)

@@ -6,7 +6,7 @@ use Rattle.spec_trees.specs.Tree.{Leaf}
 use Rattle.spec_calculus.specs.Syntax.{Name, Free, Variable, Term}
 use Rattle.spec_well_formed.specs.Leaves.{leaves, leaves_of}
 use Rattle.spec_protocol_scope.specs.Answers.{Answer, Kind, Arity, LooseVariable, fault}
-use Rattle.spec_protocol_scope.specs.Names.{Scope, Meaning, MeansFree, MeansConstructor, MeansDestructor, MeansEvent, MeansMacro, look, find_from, variable_of}
+use Rattle.spec_protocol_scope.specs.Names.{Scope, Meaning, MeansFree, MeansConstructor, MeansDestructor, MeansEvent, MeansTable, MeansMacro, look, find_from, variable_of}
 use Rattle.spec_protocol_scope.specs.Terms as rules
 use Rattle.spec_protocol_scope.specs.Terms.{Setting, InProcess, OnLeft, OnRight, InEvent}
 use Rattle.spec_protocol_scope.proofs.Stepped.{stepped, passed, faulty, found, found_one}
@@ -85,6 +85,7 @@ declared_leads v n (MeansConstructor k arity is_data) t e =
     subst (λ (x : Term). Leading v x v) (sym (passed (nat_eq arity 0) (rules.constant k) t (fault Arity n) (faulty Arity n) e).1) refl
 declared_leads v n (MeansDestructor k arity) t e = absurd (faulty Kind n t e)
 declared_leads v n (MeansEvent k arity) t e = absurd (faulty Kind n t e)
+declared_leads v n (MeansTable k arity) t e = absurd (faulty Kind n t e)
 declared_leads v n MeansMacro t e = absurd (faulty Kind n t e)
 
 event_leads : (o : Option Meaning) (v : List ℕ) (n : ℕ) (other : Answer (Term × List ℕ)) (read : Term × List ℕ) → (other ≡ Ok read → LeadingRead v read) → rules.event_leaf o v n other ≡ Ok read → LeadingRead v read

@@ -1,5 +1,6 @@
 mod Examples
 mod ExamplesNested
+mod ExamplesPhases
 pub mod Stepped
 pub mod Laws
 pub mod Points
@@ -18,6 +19,7 @@ pub mod Spelling
 pub mod Patterns
 pub mod Events
 pub mod Expressions
+pub mod Phases
 pub mod Placed
 pub mod Processes
 pub mod Queries

@@ -2,7 +2,7 @@
 use Rattle.std.proofs.Common.{◌≡◌, ℕ, suc, ◌<◌, ◌≤◌, List, length, Option, None, Some, option_map, ◌⊎◌, inl, inr, refl, ap, subst, ◌∙◌, arith}
 use Rattle.std.specs.Option.{option_or}
 use Rattle.spec_calculus.specs.Points.{numbered}
-use Rattle.spec_protocol_scope.specs.Names.{Names, Macro, Texts, Meaning, MeansFree, MeansConstructor, MeansDestructor, MeansEvent, MeansMacro, find_from, find_declared, declared_meaning, meaning_of, arity_of}
+use Rattle.spec_protocol_scope.specs.Names.{Names, Macro, Texts, Meaning, MeansFree, MeansConstructor, MeansDestructor, MeansEvent, MeansTable, MeansMacro, find_from, find_declared, declared_meaning, meaning_of, arity_of}
 use Rattle.spec_protocol_scope.proofs.Leaves.{FoundAt, found_from}
 
 -- an item of a list, by its number
@@ -17,6 +17,7 @@ IsMeant names (MeansFree k) = Numbered names.frees k (λ d. Unit {0})
 IsMeant names (MeansConstructor k arity is_data) = Numbered names.constructors k (λ d. (d.arity ≡ arity) × (d.is_data ≡ is_data))
 IsMeant names (MeansDestructor k arity) = Numbered names.destructors k (λ d. arity_of d.rules ≡ arity)
 IsMeant names (MeansEvent k arity) = Numbered names.events k (λ d. d.arity ≡ arity)
+IsMeant names (MeansTable k arity) = Numbered names.tables k (λ d. d.arity ≡ arity)
 IsMeant names MeansMacro = Unit {0}
 
 at_number : {X : Type 0} (xs : List X) (found : ℕ × X) (Is : X → Type 0) → FoundAt 1 xs found → Is found.1 → Numbered xs found.0 Is
@@ -50,6 +51,10 @@ event_meant : (names : Names) (word : List ℕ) (m : Meaning) → option_map (λ
 event_meant names word m e = by_find names names.events (λ f. MeansEvent f.0 f.1.arity) (find_declared names.events word) m
     (λ f at. at_number names.events f (λ d. d.arity ≡ f.1.arity) at refl) (λ f h. found_from (λ d. d.word) 1 names.events word f h) e
 
+table_meant : (names : Names) (word : List ℕ) (m : Meaning) → option_map (λ f. MeansTable f.0 f.1.arity) (find_declared names.tables word) ≡ Some m → IsMeant names m
+table_meant names word m e = by_find names names.tables (λ f. MeansTable f.0 f.1.arity) (find_declared names.tables word) m
+    (λ f at. at_number names.tables f (λ d. d.arity ≡ f.1.arity) at refl) (λ f h. found_from (λ d. d.word) 1 names.tables word f h) e
+
 macro_meant : (names : Names) (m : Meaning) (o : Option (ℕ × Macro)) → option_map (λ f. MeansMacro) o ≡ Some m → IsMeant names m
 macro_meant names m None e = absurd (let same = e in cc)
 macro_meant names m (Some f) e = subst (IsMeant names) (let same : MeansMacro ≡ m = (let s = e in cc) in same) tt
@@ -62,7 +67,10 @@ declared_is_meant names word m e =
         | inl k ↦ constructor_meant names word m k
         | inr k ↦ elim (either_option (option_map (λ f. MeansDestructor f.0 (arity_of f.1.rules)) (find_from (λ d. d.word) 1 names.destructors word)) _ m k) [
           | inl l ↦ destructor_meant names word m l
-          | inr l ↦ event_meant names word m l
+          | inr l ↦ elim (either_option (option_map (λ f. MeansEvent f.0 f.1.arity) (find_declared names.events word)) _ m l) [
+            | inl t ↦ event_meant names word m t
+            | inr t ↦ table_meant names word m t
+          ]
         ]
       ]
     ]

@@ -14,7 +14,7 @@ use Rattle.spec_well_formed.specs.Leaves.{leaves, leaves_of}
 use Rattle.spec_well_formed.specs.Terms.{EachSymbol, EachSymbolInRow, HasDataArity, TakesPatterns, IsTermBelow, IsHoleBelow, bound_by_hole}
 use Rattle.spec_protocol_grammar.specs.Sketch.{TermSketch, PatternSketch, NamedPattern, Equal, GroupedPattern, PatternsSketch, no_patterns, more_patterns}
 use Rattle.spec_protocol_scope.specs.Answers.{Twice, Kind, Unknown, ◌>>=◌, fault}
-use Rattle.spec_protocol_scope.specs.Names.{signature_with, Scope, Meaning, MeansFree, MeansConstructor, MeansDestructor, MeansEvent, MeansMacro, look, Bound, bound_as}
+use Rattle.spec_protocol_scope.specs.Names.{signature_with, Scope, Meaning, MeansFree, MeansConstructor, MeansDestructor, MeansEvent, MeansTable, MeansMacro, look, Bound, bound_as}
 use Rattle.spec_protocol_scope.specs.Terms as terms
 use Rattle.spec_protocol_scope.specs.Terms.{InProcess}
 use Rattle.spec_protocol_scope.specs.Patterns as rules
@@ -104,9 +104,9 @@ module _ (s : Scope) (outer : List Bound) (first : ℕ) where
   abbrev OneRead : List Bound → Pattern × List Bound → Type 0
   OneRead before read = OnePattern before read.0 read.1
 
-  record RowRead (before : List Bound) (ps : PatternsSketch) (read : List Pattern × List Bound) : Type 0 where
-    row : RowOfPatterns before read.0 read.1
-    counts : length read.0 ≡ count ps
+  pub record RowRead (before : List Bound) (ps : PatternsSketch) (read : List Pattern × List Bound) : Type 0 where
+    pub row : RowOfPatterns before read.0 read.1
+    pub counts : length read.0 ≡ count ps
 
   bind_read : (before : List Bound) (n : ℕ) → OneRead before (Leaf (Bind (first + length before)), before ++ record { token = n; name = Variable (first + length before) } ∷ [])
   bind_read before n = record {
@@ -146,9 +146,10 @@ module _ (s : Scope) (outer : List Bound) (first : ℕ) where
   data_constructor n given (Some (MeansFree i)) number is e = absurd (faulty Kind n number e)
   data_constructor n given (Some (MeansDestructor i arity)) number is e = absurd (faulty Kind n number e)
   data_constructor n given (Some (MeansEvent i arity)) number is e = absurd (faulty Kind n number e)
+  data_constructor n given (Some (MeansTable i arity)) number is e = absurd (faulty Kind n number e)
   data_constructor n given (Some MeansMacro) number is e = absurd (faulty Kind n number e)
 
-  abbrev RowsRead : List Bound → PatternsSketch → Type 0
+  abbrev pub RowsRead : List Bound → PatternsSketch → Type 0
   RowsRead before ps = (read : List Pattern × List Bound) → rules.patterns s outer first before ps ≡ Ok read → RowRead before ps read
 
   node_read : (before : List Bound) (n : ℕ) (ps : PatternsSketch) → RowsRead before ps → (read : Pattern × List Bound)
@@ -233,6 +234,6 @@ module _ (s : Scope) (outer : List Bound) (first : ℕ) where
       pattern_read (GroupedPattern n (more_patterns p ps)) solid before read e =
           grouped_read before n (more_patterns p ps) (λ r h. more_read before p ps (λ x y. pattern_read p solid.0 before x y) (λ w x y. patterns_read ps solid.1 w x y) r h) (omega arith) read e
 
-      patterns_read : (ps : PatternsSketch) → AreSolidPatterns ps → (before : List Bound) → RowsRead before ps
+      pub patterns_read : (ps : PatternsSketch) → AreSolidPatterns ps → (before : List Bound) → RowsRead before ps
       patterns_read no_patterns solid before read e = nothing_read before read e
       patterns_read (more_patterns p ps) solid before read e = more_read before p ps (λ x y. pattern_read p solid.0 before x y) (λ w x y. patterns_read ps solid.1 w x y) read e

@@ -9,7 +9,7 @@ use Rattle.spec_calculus.proofs.Items.{of_some, of_map}
 use Rattle.spec_well_formed.specs.Terms.{expression_size}
 use Rattle.spec_protocol_grammar.specs.Sketch.{TermSketch, Named, Grouped, TermsSketch, none, more}
 use Rattle.spec_protocol_scope.specs.Answers.{Answer, Kind, Unknown, within, ◌>>=◌}
-use Rattle.spec_protocol_scope.specs.Names.{Scope, Meaning, MeansFree, MeansConstructor, MeansDestructor, MeansEvent, MeansMacro, look, Bound, bound_as}
+use Rattle.spec_protocol_scope.specs.Names.{Scope, Meaning, MeansFree, MeansConstructor, MeansDestructor, MeansEvent, MeansTable, MeansMacro, look, Bound, bound_as}
 use Rattle.spec_protocol_scope.specs.Terms as terms
 use Rattle.spec_protocol_scope.specs.Terms.{InProcess, count}
 use Rattle.spec_protocol_scope.specs.Expressions as rules
@@ -57,6 +57,7 @@ constructor_root n given None number e = absurd (faulty Unknown n number e)
 constructor_root n given (Some (MeansFree i)) number e = absurd (faulty Kind n number e)
 constructor_root n given (Some (MeansConstructor i arity is_data)) number e = ap (λ (a : Answer ℕ). a >>= λ k. found (Builds (Constructor k))) e
 constructor_root n given (Some (MeansEvent i arity)) number e = absurd (faulty Kind n number e)
+constructor_root n given (Some (MeansTable i arity)) number e = absurd (faulty Kind n number e)
 constructor_root n given (Some MeansMacro) number e = absurd (faulty Kind n number e)
 
 -- a tuple, and what stands in parentheses
@@ -98,6 +99,7 @@ root_back n given (Some (MeansDestructor i arity)) f e =
 root_back n given None f e = absurd (let same = e in cc)
 root_back n given (Some (MeansFree i)) f e = absurd (let same = e in cc)
 root_back n given (Some (MeansEvent i arity)) f e = absurd (let same = e in cc)
+root_back n given (Some (MeansTable i arity)) f e = absurd (let same = e in cc)
 root_back n given (Some MeansMacro) f e = absurd (let same = e in cc)
 
 tuple_back : (n : ℕ) (es : List Expression) (x : Term) → rules.tuple n es ≡ Ok (Leaf x) → (ts : List Term) × (es ≡ plain ts) × (terms.tuple n ts ≡ Ok x)

@@ -8,7 +8,7 @@ use Rattle.spec_trees.proofs.Equality.{and_true}
 use Rattle.spec_calculus.specs.Bounds.{most_points, most_points_above}
 use Rattle.spec_calculus.specs.Syntax as calculus
 use Rattle.spec_calculus.specs.Points.{nodes}
-use Rattle.spec_protocol_grammar.specs.Sketch.{ProcessSketch, Process, alone, beside, UnitSketch, Zero, Macro, Inner, Replicated, New, Output, Input, Happens, Let, If, NextSketch, omitted, given, FileSketch}
+use Rattle.spec_protocol_grammar.specs.Sketch.{ProcessSketch, Process, alone, beside, UnitSketch, Zero, Macro, Inner, Replicated, New, Output, Input, Happens, Let, If, Phase, Insert, Get, NextSketch, omitted, given, FileSketch}
 use Rattle.spec_protocol_scope.specs.Answers.{◌>>=◌, TooMany, fault}
 use Rattle.spec_protocol_scope.proofs.Stepped.{stepped, Refused, passed, faulty, found, found_one}
 use Rattle.spec_protocol_scope.specs.Names as names
@@ -16,6 +16,7 @@ use Rattle.spec_protocol_scope.specs.Names.{Scope}
 use Rattle.spec_protocol_scope.specs.Terms as terms
 use Rattle.spec_protocol_scope.specs.Expressions as expressions
 use Rattle.spec_protocol_scope.specs.Patterns as patterns
+use Rattle.spec_protocol_scope.specs.Phases.{later_phase}
 use Rattle.spec_protocol_scope.specs.Declarations.{declare_all}
 use Rattle.spec_protocol_scope.specs.Queries.{queries}
 use Rattle.spec_protocol_scope.specs.Scope.{scope, protocol_of}
@@ -57,6 +58,9 @@ crowded s macros (Input n c p k) = faulty TooMany n
 crowded s macros (Happens n a k) = faulty TooMany n
 crowded s macros (Let n p t u k) = faulty TooMany n
 crowded s macros (If n t v u k) = faulty TooMany n
+crowded s macros (Phase n x k) = faulty TooMany n
+crowded s macros (Insert n a k) = faulty TooMany n
+crowded s macros (Get n t ps c u k) = faulty TooMany n
 
 pub crowded_in : (s : Scope) (macros : Macros) (used : Option ℕ) (u : UnitSketch) → Refused (rules.crowded_in s macros used u)
 crowded_in s macros (Some used) u = faulty TooMany used
@@ -174,6 +178,29 @@ mutual
       (two_below now a.value a.value b.value.1 (calculus.Let (Leaf (calculus.Equal right.value)) (Leaf left.value) b.value.0 c.value.0, c.value.1) b.value c.value
       (reached site now n a.value a.first) refl (unit_counted s macros all (rules.below site) a.value u b.value b.first) refl
       (after_counted s macros all (rules.below site) b.value.1 n k c.value c.first) (together b.value.0 c.value.0) refl) c.later
+  unit_counted s macros all site now (Phase n x k) read e =
+      let a = stepped (rules.reached site now n) _ read e in
+      let number = stepped (later_phase s.text site.phase x) _ read a.later in
+      let b = stepped (rules.after s macros (rules.entering number.value site) a.value n k) _ read number.later in
+      settled now (calculus.Phase number.value b.value.0, b.value.1) read (one_below now a.value a.value (calculus.Phase number.value b.value.0, b.value.1) b.value
+      (reached site now n a.value a.first) refl (after_counted s macros all (rules.entering number.value site) a.value n k b.value b.first) refl refl) b.later
+  unit_counted s macros all site now (Insert n h k) read e =
+      let a = stepped (rules.reached site now n) _ read e in
+      let written = stepped (terms.entry s site.bound h) _ read a.later in
+      let b = stepped (rules.after s macros (rules.below site) a.value n k) _ read written.later in
+      settled now (calculus.Insert written.value.0 written.value.1 b.value.0, b.value.1) read (one_below now a.value a.value (calculus.Insert written.value.0 written.value.1 b.value.0, b.value.1) b.value
+      (reached site now n a.value a.first) refl (after_counted s macros all (rules.below site) a.value n k b.value b.first) refl refl) b.later
+  unit_counted s macros all site now (Get n t ps x u k) read e =
+      let a = stepped (rules.reached site now n) _ read e in
+      let table = stepped (terms.table_named t (patterns.count ps) (names.look s t)) _ read a.later in
+      let row = stepped (patterns.patterns s site.bound a.value.variable [] ps) _ read table.later in
+      let asked = stepped (rules.condition s (row.value.1 ++ site.bound) x) _ read row.later in
+      let b = stepped (rules.unit s macros (rules.binding row.value.1 site) (rules.with_variables row.value.1 a.value) u) _ read asked.later in
+      let c = stepped (rules.after s macros (rules.below site) b.value.1 n k) _ read b.later in
+      settled now (calculus.Get table.value row.value.0 asked.value b.value.0 c.value.0, c.value.1) read
+      (two_below now a.value (rules.with_variables row.value.1 a.value) b.value.1 (calculus.Get table.value row.value.0 asked.value b.value.0 c.value.0, c.value.1) b.value c.value
+      (reached site now n a.value a.first) refl (unit_counted s macros all (rules.binding row.value.1 site) (rules.with_variables row.value.1 a.value) u b.value b.first) refl
+      (after_counted s macros all (rules.below site) b.value.1 n k c.value c.first) (together b.value.0 c.value.0) refl) c.later
 
   after_counted : (s : Scope) (macros : Macros) (all : AllCount macros) (site : Site) (now : Numbers) (n : ℕ) (k : NextSketch) (read : calculus.Process × Numbers) → rules.after s macros site now n k ≡ Ok read → Counted now read
   after_counted s macros all site now n omitted read e = zero_counted site now n read e
@@ -195,8 +222,8 @@ no_macros_counted word e is = absurd (let same = is in cc)
 -- the main process has no more points than the limit
 pub main_points : (s : Scope) (main : ProcessSketch) (p : calculus.Process) → rules.main_process s main ≡ Ok p → length (nodes p) ≤ most_points
 main_points s main p e =
-    let a = stepped (rules.process s (rules.macros_of s rules.no_macros s.names.macros) (record { bound = []; above = 0; used = None }) (record { point = 1; variable = 1 }) main) _ p e in
-    let c = process_counted s (rules.macros_of s rules.no_macros s.names.macros) (macros_counted s rules.no_macros no_macros_counted s.names.macros) (record { bound = []; above = 0; used = None }) (record { point = 1; variable = 1 }) main a.value a.first in
+    let a = stepped (rules.process s (rules.macros_of s rules.no_macros s.names.macros) (record { bound = []; above = 0; used = None; phase = 0 }) (record { point = 1; variable = 1 }) main) _ p e in
+    let c = process_counted s (rules.macros_of s rules.no_macros s.names.macros) (macros_counted s rules.no_macros no_macros_counted s.names.macros) (record { bound = []; above = 0; used = None; phase = 0 }) (record { point = 1; variable = 1 }) main a.value a.first in
     subst (λ (q : calculus.Process). length (nodes q) ≤ most_points) (found_one a.value.0 p a.later) (omega (arith, c.counts, c.few))
 
 -- and so has the main process of a protocol

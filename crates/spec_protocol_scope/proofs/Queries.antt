@@ -7,7 +7,7 @@ use Rattle.spec_trees.specs.Tree.{trees, sizes}
 use Rattle.spec_calculus.specs.Bounds.{most_alternatives, most_events, most_queries, most_written_symbols}
 use Rattle.spec_calculus.specs.Syntax as calculus
 use Rattle.spec_calculus.specs.Syntax.{Name, Made, Variable, Term, Process, EventTerm, Secret, SecretNew}
-use Rattle.spec_calculus.specs.Points.{numbered, nodes, is_restriction}
+use Rattle.spec_calculus.specs.Points.{numbered, nodes, is_restriction, greatest_phase}
 use Rattle.spec_calculus.specs.Plain.{IsPlainQuery}
 use Rattle.spec_calculus.proofs.Items.{each-append, each-weaker}
 use Rattle.spec_well_formed.specs.Signature.{Signature}
@@ -16,11 +16,12 @@ use Rattle.spec_well_formed.specs.Queries.{IsDeclaredFree, IsFreeOrVariable, eve
 use Rattle.spec_well_formed.specs.Terms.{IsTermOver, IsKnown, IsEventOver}
 use Rattle.spec_well_formed.specs.Limits.{IsSmallEvent, IsSmallAlternative, IsSmallQuery}
 use Rattle.spec_well_formed.specs.WellFormed.{IsQueryOver}
-use Rattle.spec_protocol_grammar.specs.Sketch.{AtomSketch, AlternativeSketch, QuerySketch, AttackerNew, Attacker, Correspondence, DeclarationSketch, Free, Fun, Data, Reduc, Event, Query, Definition}
+use Rattle.spec_protocol_grammar.specs.Sketch.{AtomSketch, AlternativeSketch, QuerySketch, AttackerNew, Attacker, Correspondence, DeclarationSketch, Free, Fun, Data, Reduc, Event, Table, Query, Definition}
 use Rattle.spec_protocol_scope.specs.Answers.{Unknown, AmbiguousNew}
 use Rattle.spec_protocol_scope.specs.Names.{signature_with, Scope, look}
 use Rattle.spec_protocol_scope.specs.Terms as terms
 use Rattle.spec_protocol_scope.specs.Terms.{InEvent, count}
+use Rattle.spec_protocol_scope.specs.Phases.{asked_phase}
 use Rattle.spec_protocol_scope.specs.Queries as rules
 use Rattle.spec_protocol_scope.proofs.Stepped.{stepped, faulty, kept, found_one}
 use Rattle.spec_protocol_scope.proofs.Solid.{AreSolid, IsSolidAlternative, IsSolidQuery, IsSolidDeclaration}
@@ -30,6 +31,7 @@ use Rattle.spec_protocol_scope.proofs.Leaves.{Leading, LeadingRow, leading}
 use Rattle.spec_protocol_scope.proofs.Known.{rows_known}
 use Rattle.spec_protocol_scope.proofs.Patterns.{term_below}
 use Rattle.spec_protocol_scope.proofs.Events.{event_over}
+use Rattle.spec_protocol_scope.proofs.Phases.{phase_asked}
 
 -- the first of the points of a word is a restriction
 record Restricts (first : ℕ) (ps : List Process) (point : ℕ) : Type 0 where
@@ -66,17 +68,17 @@ at_restriction main point r =
     let e : point ≡ suc r.index = omega (arith, r.is) in
     record { node = r.node; stands = ap (numbered (nodes main)) e ∙ r.stands; restricts = r.restricts }
 
--- a query as it should be
-pub record Asked (signature : Signature) (main : Process) (q : calculus.Query) : Type 0 where
+-- a query as it should be; it asks of phase 0 where the file is plain, and so the process
+pub record Asked (Plain : Type 0) (signature : Signature) (main : Process) (q : calculus.Query) : Type 0 where
   pub has_leaves : HasLeavesFor signature main q
   pub over : IsQueryOver signature q
   pub small : IsSmallQuery q
-  pub plain : IsPlainQuery q
+  pub plain : Plain → greatest_phase main ≡ 0 → IsPlainQuery q
 
-only_point : (signature : Signature) (main : Process) (x : ℕ) (points : List ℕ) → ((point : ℕ) (others : List ℕ) → points ≡ point ∷ others → IsRestrictionAt main point) → (q : calculus.Query) → rules.only_point x points ≡ Ok q → Asked signature main q
-only_point signature main x [] at q e = absurd (faulty Unknown x q e)
-only_point signature main x (point ∷ []) at q e = subst (Asked signature main) (found_one (SecretNew point 0) q e) (record { has_leaves = (at point [] refl, omega arith); over = tt; small = tt; plain = refl })
-only_point signature main x (point ∷ further ∷ points) at q e = absurd (faulty AmbiguousNew x q e)
+only_point : (main : Process) (x : ℕ) (points : List ℕ) → ((point : ℕ) (others : List ℕ) → points ≡ point ∷ others → IsRestrictionAt main point) → (point : ℕ) → rules.only_point x points ≡ Ok point → IsRestrictionAt main point
+only_point main x [] at point e = absurd (faulty Unknown x point e)
+only_point main x (first ∷ []) at point e = subst (IsRestrictionAt main) (found_one first point e) (at first [] refl)
+only_point main x (first ∷ further ∷ points) at point e = absurd (faulty AmbiguousNew x point e)
 
 -- with nothing bound, what is known is a declared free name
 known_free : (signature : Signature) (x : Name) → IsKnown signature [] x → IsDeclaredFree signature x
@@ -91,7 +93,7 @@ each-flat_map : {X A : Type 0} (P : A → Type 0) (f : X → List A) (xs : List 
 each-flat_map P f [] h = tt
 each-flat_map P f (x ∷ xs) h = each-append P (f x) (flat_map f xs) h.0 (each-flat_map P f xs h.1)
 
-module _ (s : Scope) where
+module _ (Plain : Type 0) (s : Scope) where
   abbrev signature : Signature
   signature = signature_with s.names
 
@@ -177,7 +179,7 @@ module _ (s : Scope) where
   event_free : (e : EventTerm) → IsEventOver signature (IsFreeOrVariable signature) e → AllByRecursion (IsFreeOrVariable signature) (event_leaves e)
   event_free e h = rows_known signature (IsFreeOrVariable signature) e.arguments h.arguments
 
-  correspondence : (main : Process) (left : EventTerm × List ℕ) (read : List (List EventTerm) × List ℕ) (many : ℕ) → AskedEvent [] left → AskedAlternatives left.1 many read → many ≤ 16 → Asked signature main (calculus.Correspondence left.0 read.0)
+  correspondence : (main : Process) (left : EventTerm × List ℕ) (read : List (List EventTerm) × List ℕ) (many : ℕ) → AskedEvent [] left → AskedAlternatives left.1 many read → many ≤ 16 → Asked Plain signature main (calculus.Correspondence left.0 read.0)
   correspondence main left read many l r few = record {
     has_leaves = (
       each-append _ (event_leaves left.0) (flat_map (flat_map event_leaves) read.0) (event_free left.0 l.over)
@@ -186,29 +188,35 @@ module _ (s : Scope) where
     );
     over = (l.over, r.over);
     small = (l.small, (let c = r.counts in omega arith), r.small);
-    plain = tt;
+    plain = λ p none. tt;
   }
 
-  question : (main : Process) (n : ℕ) (q : QuerySketch) → IsSolidQuery q → (asked : calculus.Query) → rules.question s main n q ≡ Ok asked → Asked signature main asked
-  question main n (AttackerNew attacker x) solid asked e =
-      only_point signature main x (rules.points_of (s.text x) 1 (nodes main)) (λ point others h. at_restriction main point (first_point (s.text x) (nodes main) 1 point others h)) asked e
-  question main n (Attacker attacker t) solid asked e =
+  question : (main : Process) (n : ℕ) (q : QuerySketch) → IsSolidQuery Plain q → (asked : calculus.Query) → rules.question s main n q ≡ Ok asked → Asked Plain signature main asked
+  question main n (AttackerNew attacker x o) solid asked e =
+      let a = stepped (rules.only_point x (rules.points_of (s.text x) 1 (nodes main))) _ asked e in
+      let b = stepped (asked_phase s.text main o) _ asked a.later in
+      let at = only_point main x (rules.points_of (s.text x) 1 (nodes main)) (λ point others h. at_restriction main point (first_point (s.text x) (nodes main) 1 point others h)) a.value a.first in
+      let phase = phase_asked Plain s.text main o solid b.value b.first in
+      subst (Asked Plain signature main) (found_one (SecretNew a.value b.value) asked b.later) (record { has_leaves = (at, phase.up); over = tt; small = tt; plain = phase.plain })
+  question main n (Attacker attacker t o) solid asked e =
       let a = stepped (terms.process_term s [] t) _ asked e in
-      let over = free_term signature a.value (term_below s [] tt t solid a.value a.first) in
-      subst (Asked signature main) (found_one (Secret a.value 0) asked a.later) (record { has_leaves = (over.known, omega arith); over = over; small = over.few; plain = refl })
+      let b = stepped (asked_phase s.text main o) _ asked a.later in
+      let over = free_term signature a.value (term_below s [] tt t solid.0 a.value a.first) in
+      let phase = phase_asked Plain s.text main o solid.1 b.value b.first in
+      subst (Asked Plain signature main) (found_one (Secret a.value b.value) asked b.later) (record { has_leaves = (over.known, phase.up); over = over; small = over.few; plain = phase.plain })
   question main n (Correspondence word a as') solid asked e =
       let b = stepped (rules.asked_event s [] a) _ asked e in
       let c = stepped (rules.alternatives s b.value.1 as') _ asked b.later in
       let k = kept (nat_le (length as') most_alternatives) n (calculus.Correspondence b.value.0 c.value.0) asked c.later in
-      subst (Asked signature main) (sym k.1)
+      subst (Asked Plain signature main) (sym k.1)
       (correspondence main b.value c.value (length as') (asked_event [] a solid.0 b.value b.first) (alternatives as' solid.1 b.value.1 c.value c.first) (leb-true (length as') most_alternatives k.0))
 
   -- queries behind so many others
   pub record AllAsked (main : Process) (before : ℕ) (qs : List calculus.Query) : Type 0 where
-    pub each : AllByRecursion (Asked signature main) qs
+    pub each : AllByRecursion (Asked Plain signature main) qs
     pub few : before + length qs ≤ most_queries
 
-  pub queries : (IsName : ℕ → Type 0) (main : Process) (ds : List DeclarationSketch) → AllByRecursion (IsSolidDeclaration IsName) ds → (before : ℕ) → before ≤ most_queries → (qs : List calculus.Query) → rules.queries s main before ds ≡ Ok qs → AllAsked main before qs
+  pub queries : (IsName : ℕ → Type 0) (main : Process) (ds : List DeclarationSketch) → AllByRecursion (IsSolidDeclaration IsName Plain) ds → (before : ℕ) → before ≤ most_queries → (qs : List calculus.Query) → rules.queries s main before ds ≡ Ok qs → AllAsked main before qs
   queries IsName main [] solid before few qs e = subst (AllAsked main before) (found_one [] qs e) (record { each = tt; few = omega arith })
   queries IsName main (Query n q ∷ ds) solid before few qs e =
       let a = stepped (rules.one_query s main n q before) _ qs e in
@@ -217,10 +225,11 @@ module _ (s : Scope) where
       let k = kept (nat_le (before + 1) most_queries) n c.value a.value c.later in
       let others = queries IsName main ds solid.1 (before + 1) (leb-true (before + 1) most_queries k.0) b.value b.first in
       subst (AllAsked main before) (found_one (a.value ∷ b.value) qs b.later)
-      (record { each = (subst (Asked signature main) (sym k.1) (question main n q solid.0 c.value c.first), others.each); few = let f = others.few in omega arith })
+      (record { each = (subst (Asked Plain signature main) (sym k.1) (question main n q solid.0 c.value c.first), others.each); few = let f = others.few in omega arith })
   queries IsName main (Free n public x xs ∷ ds) solid before few qs e = queries IsName main ds solid.1 before few qs e
   queries IsName main (Fun n public x a ∷ ds) solid before few qs e = queries IsName main ds solid.1 before few qs e
   queries IsName main (Data n x a ∷ ds) solid before few qs e = queries IsName main ds solid.1 before few qs e
   queries IsName main (Reduc n r rs ∷ ds) solid before few qs e = queries IsName main ds solid.1 before few qs e
   queries IsName main (Event n x a ∷ ds) solid before few qs e = queries IsName main ds solid.1 before few qs e
+  queries IsName main (Table n x a ∷ ds) solid before few qs e = queries IsName main ds solid.1 before few qs e
   queries IsName main (Definition n x body ∷ ds) solid before few qs e = queries IsName main ds solid.1 before few qs e

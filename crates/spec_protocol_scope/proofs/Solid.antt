@@ -1,10 +1,12 @@
--- Sketches as reading gives them: no `()` stands where the grammar wants a part, and each declared name is an identifier.
-use Rattle.std.proofs.Common.{ℕ, ◌+◌, Bool, true, false, List, [], ◌∷◌, ◌++◌}
+-- Sketches as reading gives them: no `()` stands where the grammar wants a part, each declared name is an identifier, and where
+-- a plain file is read, no phase and no table is named.
+use Rattle.std.proofs.Common.{◌≡◌, ℕ, ◌+◌, Bool, true, false, List, [], ◌∷◌, ◌++◌, Option, None, Some, refl}
 use Rattle.std.specs.List.{AllByRecursion}
 use Rattle.spec_calculus.proofs.Items.{each-weaker}
 use Rattle.spec_protocol_grammar.specs.declared.class.Class.{Class}
 use Rattle.spec_protocol_grammar.specs.declared.class.Class.TheVariants as w
-use Rattle.spec_protocol_grammar.specs.Sketch.{TermSketch, Named, Grouped, TermsSketch, none, more, PatternSketch, NamedPattern, Equal, GroupedPattern, PatternsSketch, no_patterns, more_patterns, ProcessSketch, Process, BesideSketch, alone, beside, UnitSketch, Zero, Macro, Inner, Replicated, New, Output, Input, Happens, Let, If, NextSketch, omitted, given, AlternativeSketch, QuerySketch, AttackerNew, Attacker, Correspondence, RuleSketch, DeclarationSketch, Free, Fun, Data, Reduc, Event, Query, Definition, FileSketch}
+use Rattle.spec_protocol_grammar.specs.Sketch.{TermSketch, Named, Grouped, TermsSketch, none, more, PatternSketch, NamedPattern, Equal, GroupedPattern, PatternsSketch, no_patterns, more_patterns, ConditionSketch, always, such_that, ProcessSketch, Process, BesideSketch, alone, beside, UnitSketch, Zero, Macro, Inner, Replicated, New, Output, Input, Happens, Let, If, Phase, Insert, Get, NextSketch, omitted, given, AlternativeSketch, QuerySketch, AttackerNew, Attacker, Correspondence, RuleSketch, DeclarationSketch, Free, Fun, Data, Reduc, Event, Table, Query, Definition, FileSketch}
+use Rattle.spec_protocol_scope.specs.Plain.{is_plain_word}
 use Rattle.spec_protocol_grammar.specs.Spelling as spelling
 use Rattle.spec_protocol_grammar.specs.Spelling.{Item, one, no, nothing, kept, word, more_of, visible}
 
@@ -31,16 +33,31 @@ abbrev mutual
   AreSolidPatterns no_patterns = Unit {0}
   AreSolidPatterns (more_patterns p ps) = IsSolidPattern p × AreSolidPatterns ps
 
+abbrev pub IsSolidCondition : ConditionSketch → Type 0
+IsSolidCondition always = Unit {0}
+IsSolidCondition (such_that t v) = IsSolid t × IsSolid v
+
 abbrev pub IsSolidAlternative : AlternativeSketch → Type 0
 IsSolidAlternative a = AreSolid a.atom.arguments × AllByRecursion (λ b. AreSolid b.arguments) a.others
 
-abbrev pub IsSolidQuery : QuerySketch → Type 0
-IsSolidQuery (AttackerNew n x) = Unit {0}
-IsSolidQuery (Attacker n t) = IsSolid t
-IsSolidQuery (Correspondence n a others) = AreSolid a.arguments × AllByRecursion IsSolidAlternative others
+-- a rule whose name is such a token
+pub record IsSolidRule (IsName : ℕ → Type 0) (r : RuleSketch) : Type 0 where
+  pub name : IsName r.first
+  pub arguments : AreSolid r.arguments
+  pub result : IsSolid r.result
 
--- where each token that declares a name is such
-module _ (IsName : ℕ → Type 0) where
+-- a query that names no phase, where the file is plain
+abbrev pub IsSolidPhase : (Plain : Type 0) → Option ℕ → Type 0
+IsSolidPhase Plain None = Unit {0}
+IsSolidPhase Plain (Some x) = Plain → ⊥
+
+abbrev pub IsSolidQuery : (Plain : Type 0) → QuerySketch → Type 0
+IsSolidQuery Plain (AttackerNew n x o) = IsSolidPhase Plain o
+IsSolidQuery Plain (Attacker n t o) = IsSolid t × IsSolidPhase Plain o
+IsSolidQuery Plain (Correspondence n a others) = AreSolid a.arguments × AllByRecursion IsSolidAlternative others
+
+-- where each token that declares a name is such, and the file may be plain
+module _ (IsName : ℕ → Type 0) (Plain : Type 0) where
   abbrev mutual
     pub IsSolidProcess : ProcessSketch → Type 0
     IsSolidProcess (Process u b) = IsSolidUnit u × IsSolidBeside b
@@ -60,23 +77,22 @@ module _ (IsName : ℕ → Type 0) where
     IsSolidUnit (Happens n a k) = AreSolid a.arguments × IsSolidNext k
     IsSolidUnit (Let n p t u k) = IsSolidPattern p × IsSolid t × IsSolidUnit u × IsSolidNext k
     IsSolidUnit (If n t v u k) = IsSolid t × IsSolid v × IsSolidUnit u × IsSolidNext k
+    IsSolidUnit (Phase n x k) = (Plain → ⊥) × IsSolidNext k
+    IsSolidUnit (Insert n a k) = (Plain → ⊥) × AreSolid a.arguments × IsSolidNext k
+    IsSolidUnit (Get n t ps c u k) = (Plain → ⊥) × AreSolidPatterns ps × IsSolidCondition c × IsSolidUnit u × IsSolidNext k
 
     pub IsSolidNext : NextSketch → Type 0
     IsSolidNext omitted = Unit {0}
     IsSolidNext (given u) = IsSolidUnit u
 
-  pub record IsSolidRule (r : RuleSketch) : Type 0 where
-    pub name : IsName r.first
-    pub arguments : AreSolid r.arguments
-    pub result : IsSolid r.result
-
   abbrev pub IsSolidDeclaration : DeclarationSketch → Type 0
   IsSolidDeclaration (Free n public x xs) = IsName x × AllByRecursion IsName xs
   IsSolidDeclaration (Fun n public x a) = IsName x
   IsSolidDeclaration (Data n x a) = IsName x
-  IsSolidDeclaration (Reduc n r rs) = IsSolidRule r × AllByRecursion IsSolidRule rs
+  IsSolidDeclaration (Reduc n r rs) = IsSolidRule IsName r × AllByRecursion (IsSolidRule IsName) rs
   IsSolidDeclaration (Event n x a) = IsName x
-  IsSolidDeclaration (Query n q) = IsSolidQuery q
+  IsSolidDeclaration (Table n x a) = IsName x × (Plain → ⊥)
+  IsSolidDeclaration (Query n q) = IsSolidQuery Plain q
   IsSolidDeclaration (Definition n x p) = IsSolidProcess p
 
   pub record IsSolidFile (f : FileSketch) : Type 0 where
@@ -88,7 +104,8 @@ each-split P [] ys h = (tt, h)
 each-split P (x ∷ xs) ys h = let rest = each-split P xs ys h.1 in ((h.0, rest.0), rest.1)
 
 -- what is spelled by items of which this holds is solid
-module _ (Good : Item → Type 0) (never : Good nothing → ⊥) (IsName : ℕ → Type 0) (named : (l n : ℕ) → Good (kept l n w.Name) → IsName n) where
+module _ (Good : Item → Type 0) (never : Good nothing → ⊥) (IsName : ℕ → Type 0) (named : (l n : ℕ) → Good (kept l n w.Name) → IsName n)
+    (Plain : Type 0) (later : (l : ℕ) (o : Option ℕ) (c : Class) → is_plain_word c ≡ false → Good (one l o c) → Plain → ⊥) where
   abbrev Each : List Item → Type 0
   Each items = AllByRecursion Good items
 
@@ -146,17 +163,23 @@ module _ (Good : Item → Type 0) (never : Good nothing → ⊥) (IsName : ℕ �
         let b = split (spelling.pattern (l + 1) p) (spelling.commas_patterns l ps) h.1 in
         (pattern_solid p (l + 1) b.0, commas_solid ps l b.1)
 
+  condition_solid : (c : ConditionSketch) (l : ℕ) → Each (spelling.condition l c) → IsSolidCondition c
+  condition_solid always l h = tt
+  condition_solid (such_that t v) l h =
+      let a = split (spelling.term (l + 1) t) _ h.1 in
+      (term_solid t (l + 1) a.0, term_solid v (l + 1) a.1.1)
+
   mutual
-    process_solid : (p : ProcessSketch) (l : ℕ) → Each (spelling.process l p) → IsSolidProcess IsName p
+    process_solid : (p : ProcessSketch) (l : ℕ) → Each (spelling.process l p) → IsSolidProcess IsName Plain p
     process_solid (Process u b) l h =
         let a = split (spelling.unit (l + 1) u) (spelling.besides l b) h in
         (unit_solid u (l + 1) a.0, beside_solid b l a.1)
 
-    beside_solid : (b : BesideSketch) (l : ℕ) → Each (spelling.besides l b) → IsSolidBeside IsName b
+    beside_solid : (b : BesideSketch) (l : ℕ) → Each (spelling.besides l b) → IsSolidBeside IsName Plain b
     beside_solid alone l h = tt
     beside_solid (beside p) l h = process_solid p (l + 1) h.1
 
-    unit_solid : (u : UnitSketch) (l : ℕ) → Each (spelling.unit l u) → IsSolidUnit IsName u
+    unit_solid : (u : UnitSketch) (l : ℕ) → Each (spelling.unit l u) → IsSolidUnit IsName Plain u
     unit_solid (Zero n) l h = tt
     unit_solid (Macro n) l h = tt
     unit_solid (Inner n p) l h = process_solid p (l + 1) (split (spelling.process (l + 1) p) (word l w.Close ∷ []) h.1).0
@@ -183,8 +206,17 @@ module _ (Good : Item → Type 0) (never : Good nothing → ⊥) (IsName : ℕ �
         let b = split (spelling.term (l + 1) v) _ a.1.1 in
         let c = split (spelling.unit (l + 1) u) _ b.1.1 in
         (term_solid t (l + 1) a.0, term_solid v (l + 1) b.0, unit_solid u (l + 1) c.0, next_solid k w.Else l c.1)
+    unit_solid (Phase n x k) l h = (later l (Some n) w.Phase refl h.0, next_solid k w.Semicolon l h.1.1)
+    unit_solid (Insert n a k) l h =
+        let b = split (spelling.atom (l + 1) a) _ h.1 in
+        (later l (Some n) w.Insert refl h.0, arguments_solid a.arguments (l + 1) b.0.1, next_solid k w.Semicolon l b.1)
+    unit_solid (Get n t ps c u k) l h =
+        let a = split (spelling.pattern_arguments l ps ++ spelling.condition l c) _ h.1.1 in
+        let b = split (spelling.pattern_arguments l ps) (spelling.condition l c) a.0 in
+        let d = split (spelling.unit (l + 1) u) _ a.1.1 in
+        (later l (Some n) w.Get refl h.0, pattern_arguments_solid ps l b.0, condition_solid c l b.1, unit_solid u (l + 1) d.0, next_solid k w.Else l d.1)
 
-    next_solid : (k : NextSketch) (before : Class) (l : ℕ) → Each (spelling.next before l k) → IsSolidNext IsName k
+    next_solid : (k : NextSketch) (before : Class) (l : ℕ) → Each (spelling.next before l k) → IsSolidNext IsName Plain k
     next_solid omitted before l h = tt
     next_solid (given u) before l h = unit_solid u (l + 1) h.1
 
@@ -204,9 +236,13 @@ module _ (Good : Item → Type 0) (never : Good nothing → ⊥) (IsName : ℕ �
       let b = split (spelling.alternative a) _ h in
       (alternative_solid a b.0, each-weaker _ _ alternative_solid others (each_part 0 w.Or spelling.alternative others b.1))
 
-  query_solid : (q : QuerySketch) → Each (spelling.question q) → IsSolidQuery q
-  query_solid (AttackerNew n x) h = tt
-  query_solid (Attacker n t) h = term_solid t 1 (split (spelling.term 1 t) _ h.1.1).0
+  phase_solid : (o : Option ℕ) → Each (spelling.asked_phase o) → IsSolidPhase Plain o
+  phase_solid None h = tt
+  phase_solid (Some x) h = later 0 None w.Phase refl h.0
+
+  query_solid : (q : QuerySketch) → Each (spelling.question q) → IsSolidQuery Plain q
+  query_solid (AttackerNew n x o) h = phase_solid o h.1.1.1.1.1
+  query_solid (Attacker n t o) h = let a = split (spelling.term 1 t) _ h.1.1 in (term_solid t 1 a.0, phase_solid o a.1.1)
   query_solid (Correspondence n a others) h =
       let b = split (spelling.atom 1 a) _ h.1 in
       (arguments_solid a.arguments 1 b.0.1, alternatives_solid others b.1.1)
@@ -220,7 +256,7 @@ module _ (Good : Item → Type 0) (never : Good nothing → ⊥) (IsName : ℕ �
   visible_rest n true class rest h = h.1
   visible_rest n false class rest h = h.1.1
 
-  declaration_solid : (d : DeclarationSketch) → Each (spelling.declaration d) → IsSolidDeclaration IsName d
+  declaration_solid : (d : DeclarationSketch) → Each (spelling.declaration d) → IsSolidDeclaration IsName Plain d
   declaration_solid (Free n public x xs) h =
       let rest = visible_rest n public w.Free _ h in
       let a = split (more_of 0 w.Comma spelling.name xs) _ rest.1 in
@@ -232,17 +268,18 @@ module _ (Good : Item → Type 0) (never : Good nothing → ⊥) (IsName : ℕ �
       let b = split (spelling.rule r) _ a.0 in
       (rule_solid r b.0, each-weaker _ _ rule_solid rs (each_part 0 w.Semicolon spelling.rule rs b.1))
   declaration_solid (Event n x a) h = named 0 x h.1.0
+  declaration_solid (Table n x a) h = (named 0 x h.1.0, later 0 (Some n) w.Table refl h.0)
   declaration_solid (Query n q) h = query_solid q (split (spelling.question q) _ h.1).0
   declaration_solid (Definition n x p) h = process_solid p 1 (split (spelling.process 1 p) _ h.1.1.1).0
 
-  declarations_solid : (ds : List DeclarationSketch) (behind : List Item) → Each (spelling.declarations ds behind) → AllByRecursion (IsSolidDeclaration IsName) ds × Each behind
+  declarations_solid : (ds : List DeclarationSketch) (behind : List Item) → Each (spelling.declarations ds behind) → AllByRecursion (IsSolidDeclaration IsName Plain) ds × Each behind
   declarations_solid [] behind h = (tt, h)
   declarations_solid (d ∷ ds) behind h =
       let a = split (spelling.declaration d) (spelling.declarations ds behind) h in
       let b = declarations_solid ds behind a.1 in
       ((declaration_solid d a.0, b.0), b.1)
 
-  pub file_solid : (f : FileSketch) → Each (spelling.file f) → IsSolidFile IsName f
+  pub file_solid : (f : FileSketch) → Each (spelling.file f) → IsSolidFile IsName Plain f
   file_solid f h =
       let a = declarations_solid f.declarations (spelling.main f.first f.main) h in
       record { declarations = a.0; main = process_solid f.main 1 (split (spelling.process 1 f.main) _ a.1.1).0 }

@@ -7,7 +7,7 @@ use Rattle.spec_calculus.specs.Bounds.{most_arguments, most_written_symbols}
 use Rattle.spec_calculus.specs.Syntax.{Constructor, Tuple, Term}
 use Rattle.spec_protocol_grammar.specs.Sketch.{TermSketch, Named, Grouped, TermsSketch, none, more}
 use Rattle.spec_protocol_scope.specs.Answers.{Kind, Unknown, Arity, ◌>>=◌, fault}
-use Rattle.spec_protocol_scope.specs.Names.{Scope, Meaning, MeansFree, MeansConstructor, MeansDestructor, MeansEvent, MeansMacro, look}
+use Rattle.spec_protocol_scope.specs.Names.{Scope, Meaning, MeansFree, MeansConstructor, MeansDestructor, MeansEvent, MeansTable, MeansMacro, look}
 use Rattle.spec_protocol_scope.specs.Terms as rules
 use Rattle.spec_protocol_scope.specs.Terms.{Setting, count}
 use Rattle.spec_protocol_scope.proofs.Stepped.{stepped, passed, faulty, kept, chosen, found, found_one}
@@ -36,6 +36,7 @@ constructed n given (Some (MeansConstructor i arity is_data)) number e =
 constructed n given (Some (MeansFree i)) number e = absurd (faulty Kind n number e)
 constructed n given (Some (MeansDestructor i arity)) number e = absurd (faulty Kind n number e)
 constructed n given (Some (MeansEvent i arity)) number e = absurd (faulty Kind n number e)
+constructed n given (Some (MeansTable i arity)) number e = absurd (faulty Kind n number e)
 constructed n given (Some MeansMacro) number e = absurd (faulty Kind n number e)
 
 -- one rule for each form of a term: a term and a row, with the variables before and behind them

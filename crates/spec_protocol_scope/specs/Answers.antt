@@ -17,6 +17,8 @@ pub data Code : Type 0 where
   TooMany : Code
   -- a query for the name of one of several restrictions
   AmbiguousNew : Code
+  -- a phase that is not later than the one in force, or in a query one past the greatest
+  PhaseOrder : Code
 
 -- a fault, and the number of its token, from 0
 pub record Fault : Type 0 where

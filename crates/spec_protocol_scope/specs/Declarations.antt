@@ -3,7 +3,7 @@ use Rattle.std.specs.Prelude.{ℕ, ◌+◌, Bool, true, false, nat_eq, nat_le, �
 use Rattle.spec_trees.specs.Tree.{size, sizes, trees}
 use Rattle.spec_calculus.specs.Bounds.{most_names, most_arguments, most_rules, most_written_symbols}
 use Rattle.spec_calculus.specs.Syntax as calculus
-use Rattle.spec_protocol_grammar.specs.Sketch.{ProcessSketch, RuleSketch, DeclarationSketch, Free, Fun, Data, Reduc, Event, Query, Definition}
+use Rattle.spec_protocol_grammar.specs.Sketch.{ProcessSketch, RuleSketch, DeclarationSketch, Free, Fun, Data, Reduc, Event, Table, Query, Definition}
 use Rattle.spec_protocol_scope.specs.Answers.{Answer, Twice, Arity, Kind, fault, within, ◌>>=◌}
 use Rattle.spec_protocol_scope.specs.Names.{Texts, Names, Scope, Macro, count_of, look, same_text, is_variable, decimal}
 use Rattle.spec_protocol_scope.specs.Terms.{OnLeft, OnRight, count, term, terms}
@@ -36,7 +36,7 @@ constructor s public is_data n a = do
   size ← arity s.text a
   Ok (record { word = word; arity = size; public = public; is_data = is_data })
 
--- an event
+-- an event, or a table
 abbrev pub event : Scope → ℕ → ℕ → Answer calculus.Declared
 event s n a = do
   word ← new_name s n
@@ -73,19 +73,22 @@ destructor s n first others = do
 
 -- the names with one more
 abbrev pub with_free : Names → calculus.Declared → Names
-with_free names d = record { frees = names.frees ++ d ∷ []; constructors = names.constructors; destructors = names.destructors; events = names.events; macros = names.macros }
+with_free names d = record { frees = names.frees ++ d ∷ []; constructors = names.constructors; destructors = names.destructors; events = names.events; tables = names.tables; macros = names.macros }
 
 abbrev pub with_constructor : Names → calculus.Declared → Names
-with_constructor names d = record { frees = names.frees; constructors = names.constructors ++ d ∷ []; destructors = names.destructors; events = names.events; macros = names.macros }
+with_constructor names d = record { frees = names.frees; constructors = names.constructors ++ d ∷ []; destructors = names.destructors; events = names.events; tables = names.tables; macros = names.macros }
 
 abbrev pub with_destructor : Names → calculus.Destructor → Names
-with_destructor names d = record { frees = names.frees; constructors = names.constructors; destructors = names.destructors ++ d ∷ []; events = names.events; macros = names.macros }
+with_destructor names d = record { frees = names.frees; constructors = names.constructors; destructors = names.destructors ++ d ∷ []; events = names.events; tables = names.tables; macros = names.macros }
 
 abbrev pub with_event : Names → calculus.Declared → Names
-with_event names d = record { frees = names.frees; constructors = names.constructors; destructors = names.destructors; events = names.events ++ d ∷ []; macros = names.macros }
+with_event names d = record { frees = names.frees; constructors = names.constructors; destructors = names.destructors; events = names.events ++ d ∷ []; tables = names.tables; macros = names.macros }
+
+abbrev pub with_table : Names → calculus.Declared → Names
+with_table names d = record { frees = names.frees; constructors = names.constructors; destructors = names.destructors; events = names.events; tables = names.tables ++ d ∷ []; macros = names.macros }
 
 abbrev pub with_macro : Names → Macro → Names
-with_macro names m = record { frees = names.frees; constructors = names.constructors; destructors = names.destructors; events = names.events; macros = names.macros ++ m ∷ [] }
+with_macro names m = record { frees = names.frees; constructors = names.constructors; destructors = names.destructors; events = names.events; tables = names.tables; macros = names.macros ++ m ∷ [] }
 
 -- the scope of these names
 abbrev pub among : Texts → Names → Scope
@@ -118,6 +121,11 @@ declare_event text names n a = do
   found ← event (among text names) n a
   Ok (with_event names found)
 
+abbrev pub declare_table : Texts → Names → ℕ → ℕ → Answer Names
+declare_table text names n a = do
+  found ← event (among text names) n a
+  Ok (with_table names found)
+
 abbrev pub declare_macro : Texts → Names → ℕ → ProcessSketch → Answer Names
 declare_macro text names n body = do
   word ← new_name (among text names) n
@@ -130,6 +138,7 @@ declare text names (Fun n public x a) = declare_constructor text names public fa
 declare text names (Data n x a) = declare_constructor text names true true x a
 declare text names (Reduc n r rs) = declare_destructor text names n r rs
 declare text names (Event n x a) = declare_event text names x a
+declare text names (Table n x a) = declare_table text names x a
 declare text names (Query n q) = Ok names
 declare text names (Definition n x body) = declare_macro text names x body
 

@@ -5,9 +5,11 @@ pub mod Terms
 pub mod Expressions
 pub mod Patterns
 pub mod Declarations
+pub mod Phases
 pub mod Processes
 pub mod Queries
 pub mod Scope
 pub mod Spells
 pub mod Evaluated
 pub mod Words
+pub mod Plain

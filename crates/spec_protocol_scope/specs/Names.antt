@@ -23,20 +23,22 @@ pub record Names : Type 0 where
   pub constructors : List Declared
   pub destructors : List Destructor
   pub events : List Declared
+  pub tables : List Declared
   pub macros : List Macro
 
--- what these names are apart from macros; files declare no tables
+-- what these names are apart from macros
 abbrev pub signature_with : Names → Signature
 signature_with names =
-    record { frees = names.frees; constructors = names.constructors; destructors = names.destructors; events = names.events; tables = [] }
+    record { frees = names.frees; constructors = names.constructors; destructors = names.destructors; events = names.events; tables = names.tables }
 
 abbrev pub no_names : Names
-no_names = record { frees = []; constructors = []; destructors = []; events = []; macros = [] }
+no_names = record { frees = []; constructors = []; destructors = []; events = []; tables = []; macros = [] }
 
 -- how many names are declared
 abbrev pub count_of : Names → ℕ
 count_of names =
-    length names.frees + length names.constructors + length names.destructors + length names.events + length names.macros
+    length names.frees + length names.constructors + length names.destructors + length names.events + length names.tables
+    + length names.macros
 
 -- what a declared name is, with its number among those of its kind, from 1
 pub data Meaning : Type 0 where
@@ -44,6 +46,7 @@ pub data Meaning : Type 0 where
   MeansConstructor : (number arity : ℕ) → (is_data : Bool) → Meaning
   MeansDestructor : (number arity : ℕ) → Meaning
   MeansEvent : (number arity : ℕ) → Meaning
+  MeansTable : (number arity : ℕ) → Meaning
   MeansMacro : Meaning
 
 -- the first item that is spelled so, with its number, where the first item has this one
@@ -66,7 +69,8 @@ declared_meaning names word =
     option_or (option_map (λ f. MeansFree f.0) (find_declared names.frees word))
     (option_or (option_map (λ f. MeansConstructor f.0 f.1.arity f.1.is_data) (find_declared names.constructors word))
     (option_or (option_map (λ f. MeansDestructor f.0 (arity_of f.1.rules)) (find_from (λ d. d.word) 1 names.destructors word))
-    (option_map (λ f. MeansEvent f.0 f.1.arity) (find_declared names.events word))))
+    (option_or (option_map (λ f. MeansEvent f.0 f.1.arity) (find_declared names.events word))
+    (option_map (λ f. MeansTable f.0 f.1.arity) (find_declared names.tables word)))))
 
 -- what the word is declared as
 abbrev pub meaning_of : Texts → Names → List ℕ → Option Meaning

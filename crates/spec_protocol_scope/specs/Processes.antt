@@ -4,13 +4,14 @@ use Rattle.std.specs.Str.{bytes_eq}
 use Rattle.spec_trees.specs.Tree.{Leaf}
 use Rattle.spec_calculus.specs.Bounds.{most_points, most_points_above}
 use Rattle.spec_calculus.specs.Syntax as calculus
-use Rattle.spec_protocol_grammar.specs.Sketch.{ProcessSketch, Process, alone, beside, UnitSketch, Zero, Macro, Inner, Replicated, New, Output, Input, Happens, Let, If, NextSketch, omitted, given}
+use Rattle.spec_protocol_grammar.specs.Sketch.{ConditionSketch, always, such_that, ProcessSketch, Process, alone, beside, UnitSketch, Zero, Macro, Inner, Replicated, New, Output, Input, Happens, Let, If, Phase, Insert, Get, NextSketch, omitted, given}
 use Rattle.spec_protocol_scope.specs.Answers.{Answer, Code, Unknown, Kind, TooMany, fault, ◌>>=◌}
-use Rattle.spec_protocol_scope.specs.Names.{Scope, Meaning, MeansFree, MeansConstructor, MeansDestructor, MeansEvent, MeansMacro, look, Bound}
+use Rattle.spec_protocol_scope.specs.Names.{Scope, Meaning, MeansMacro, look, Bound}
 use Rattle.spec_protocol_scope.specs.Names as names
-use Rattle.spec_protocol_scope.specs.Terms.{InProcess, process_term, event}
+use Rattle.spec_protocol_scope.specs.Terms.{InProcess, process_term, table_named, event, entry}
 use Rattle.spec_protocol_scope.specs.Expressions.{expression}
-use Rattle.spec_protocol_scope.specs.Patterns.{pattern}
+use Rattle.spec_protocol_scope.specs.Patterns.{count, pattern, patterns}
+use Rattle.spec_protocol_scope.specs.Phases.{later_phase}
 
 -- the numbers that the next point and the next variable get
 pub record Numbers : Type 0 where
@@ -25,14 +26,20 @@ pub record Site : Type 0 where
   pub above : ℕ
   -- the identifier of the outermost macro use that it comes from
   pub used : Option ℕ
+  -- the phase in force there
+  pub phase : ℕ
 
 -- one point further down
 abbrev pub below : Site → Site
-below site = record { bound = site.bound; above = site.above + 1; used = site.used }
+below site = record { bound = site.bound; above = site.above + 1; used = site.used; phase = site.phase }
+
+-- one point further down, in this phase
+abbrev pub entering : ℕ → Site → Site
+entering phase site = record { bound = site.bound; above = site.above + 1; used = site.used; phase = phase }
 
 -- one point further down, where this is bound
 abbrev pub binding_all : List Bound → Site → Site
-binding_all bound site = record { bound = bound; above = site.above + 1; used = site.used }
+binding_all bound site = record { bound = bound; above = site.above + 1; used = site.used; phase = site.phase }
 
 -- one point further down, where these are bound besides
 abbrev pub binding : List Bound → Site → Site
@@ -40,7 +47,7 @@ binding found site = binding_all (found ++ site.bound) site
 
 -- in the body of the macro that this identifier uses
 abbrev pub within_macro : ℕ → Site → Site
-within_macro n site = record { bound = site.bound; above = site.above; used = Some (unwrap_or site.used n) }
+within_macro n site = record { bound = site.bound; above = site.above; used = Some (unwrap_or site.used n); phase = site.phase }
 
 -- a process, with the numbers that come after it
 abbrev pub Numbered : Type 0
@@ -87,6 +94,9 @@ first_of (Input n c p k) = n
 first_of (Happens n a k) = n
 first_of (Let n p t u k) = n
 first_of (If n t v u k) = n
+first_of (Phase n x k) = n
+first_of (Insert n a k) = n
+first_of (Get n t ps c u k) = n
 
 -- whether one more point may stand there: it is within the limits of points, and of points above it
 abbrev pub is_room : Site → Numbers → Bool
@@ -122,6 +132,14 @@ made x now = record { token = x; name = calculus.Made now.point }
 -- as many variables more
 abbrev pub with_variables : List Bound → Numbers → Numbers
 with_variables found now = record { point = now.point; variable = now.variable + length found }
+
+-- what is asked of an entry besides its patterns, where these are bound
+abbrev pub condition : Scope → List Bound → ConditionSketch → Answer calculus.Condition
+condition s bound always = Ok None
+condition s bound (such_that t v) = do
+  left ← process_term s bound t
+  right ← process_term s bound v
+  Ok (Some (left, right))
 
 abbrev mutual
   -- a unit, and what runs beside it
@@ -182,6 +200,25 @@ abbrev mutual
     done ← unit s macros (below site) next u
     otherwise ← after s macros (below site) done.1 n k
     Ok (calculus.Let (Leaf (calculus.Equal right)) (Leaf left) done.0 otherwise.0, otherwise.1)
+  unit s macros site now (Phase n x k) = do
+    next ← reached site now n
+    number ← later_phase s.text site.phase x
+    rest ← after s macros (entering number site) next n k
+    Ok (calculus.Phase number rest.0, rest.1)
+  unit s macros site now (Insert n a k) = do
+    next ← reached site now n
+    written ← entry s site.bound a
+    rest ← after s macros (below site) next n k
+    Ok (calculus.Insert written.0 written.1 rest.0, rest.1)
+  -- the terms of a row of patterns are read before it binds anything, those of the condition behind it
+  unit s macros site now (Get n t ps c u k) = do
+    next ← reached site now n
+    table ← table_named t (count ps) (look s t)
+    row ← patterns s site.bound next.variable [] ps
+    asked ← condition s (row.1 ++ site.bound) c
+    done ← unit s macros (binding row.1 site) (with_variables row.1 next) u
+    otherwise ← after s macros (below site) done.1 n k
+    Ok (calculus.Get table row.0 asked done.0 otherwise.0, otherwise.1)
 
   -- a continuation or else branch of the unit that begins with this token; where it is omitted, it is `0`
   pub after : Scope → Macros → Site → Numbers → ℕ → NextSketch → Numbered
@@ -199,8 +236,8 @@ abbrev pub macros_of : Scope → Macros → List names.Macro → Macros
 macros_of s macros [] = macros
 macros_of s macros (m ∷ ms) = macros_of s (with_macro macros (s.text m.name) (expand s macros m)) ms
 
--- the main process
+-- the main process, which begins in phase 0
 abbrev pub main_process : Scope → ProcessSketch → Answer calculus.Process
 main_process s main = do
-  read ← process s (macros_of s no_macros s.names.macros) (record { bound = []; above = 0; used = None }) (record { point = 1; variable = 1 }) main
+  read ← process s (macros_of s no_macros s.names.macros) (record { bound = []; above = 0; used = None; phase = 0 }) (record { point = 1; variable = 1 }) main
   Ok read.0

@@ -5,10 +5,11 @@ use Rattle.spec_trees.specs.Tree.{sizes, trees}
 use Rattle.spec_calculus.specs.Bounds.{most_alternatives, most_events, most_queries, most_written_symbols}
 use Rattle.spec_calculus.specs.Syntax as calculus
 use Rattle.spec_calculus.specs.Points.{nodes}
-use Rattle.spec_protocol_grammar.specs.Sketch.{AtomSketch, AlternativeSketch, QuerySketch, AttackerNew, Attacker, Correspondence, DeclarationSketch, Free, Fun, Data, Reduc, Event, Query, Definition}
+use Rattle.spec_protocol_grammar.specs.Sketch.{AtomSketch, AlternativeSketch, QuerySketch, AttackerNew, Attacker, Correspondence, DeclarationSketch, Free, Fun, Data, Reduc, Event, Table, Query, Definition}
 use Rattle.spec_protocol_scope.specs.Answers.{Answer, Unknown, AmbiguousNew, fault, within, ◌>>=◌}
 use Rattle.spec_protocol_scope.specs.Names.{Scope}
 use Rattle.spec_protocol_scope.specs.Terms.{Reading, InEvent, process_term, event}
+use Rattle.spec_protocol_scope.specs.Phases.{asked_phase}
 
 -- the points among these nodes, of which the first is this one, at which a name of that word is made
 abbrev pub points_of : List ℕ → ℕ → List calculus.Process → List ℕ
@@ -17,10 +18,10 @@ points_of word point (calculus.New made next ∷ ps) =
     if bytes_eq made word then point ∷ points_of word (point + 1) ps else points_of word (point + 1) ps
 points_of word point (p ∷ ps) = points_of word (point + 1) ps
 
--- the one restriction of a name
-abbrev pub only_point : ℕ → List ℕ → Answer calculus.Query
+-- the point of the one restriction of a name
+abbrev pub only_point : ℕ → List ℕ → Answer ℕ
 only_point x [] = fault Unknown x
-only_point x (point ∷ []) = Ok (calculus.SecretNew point 0)
+only_point x (point ∷ []) = Ok point
 only_point x (point ∷ further ∷ points) = fault AmbiguousNew x
 
 -- an event of a query, of no more symbols, with its own, than may be written
@@ -51,12 +52,16 @@ alternatives s variables (a ∷ as') = do
   others ← alternatives s first.1 as'
   Ok (first.0 ∷ others.0, others.1)
 
--- what a query asks, in a declaration that begins with this token; its variables are one space, and secrecy is asked of phase 0
+-- what a query asks, in a declaration that begins with this token; its variables are one space
 abbrev pub question : Scope → calculus.Process → ℕ → QuerySketch → Answer calculus.Query
-question s main n (AttackerNew attacker x) = only_point x (points_of (s.text x) 1 (nodes main))
-question s main n (Attacker attacker t) = do
+question s main n (AttackerNew attacker x o) = do
+  point ← only_point x (points_of (s.text x) 1 (nodes main))
+  phase ← asked_phase s.text main o
+  Ok (calculus.SecretNew point phase)
+question s main n (Attacker attacker t o) = do
   message ← process_term s [] t
-  Ok (calculus.Secret message 0)
+  phase ← asked_phase s.text main o
+  Ok (calculus.Secret message phase)
 question s main n (Correspondence word a as') = do
   left ← asked_event s [] a
   read ← alternatives s left.1 as'
@@ -80,4 +85,5 @@ queries s main before (Fun n public x a ∷ ds) = queries s main before ds
 queries s main before (Data n x a ∷ ds) = queries s main before ds
 queries s main before (Reduc n r rs ∷ ds) = queries s main before ds
 queries s main before (Event n x a ∷ ds) = queries s main before ds
+queries s main before (Table n x a ∷ ds) = queries s main before ds
 queries s main before (Definition n x body ∷ ds) = queries s main before ds

@@ -1,6 +1,6 @@
 -- The protocol that a sketch stands for, or its first fault: first of the declarations other than queries, then of the
 -- main process, then of the queries.
-use Rattle.std.specs.Prelude.{List, [], Ok}
+use Rattle.std.specs.Prelude.{List, Ok}
 use Rattle.spec_calculus.specs.Syntax.{Process, Query, Protocol}
 use Rattle.spec_protocol_grammar.specs.Sketch.{FileSketch}
 use Rattle.spec_protocol_scope.specs.Answers.{Answer, ◌>>=◌}
@@ -12,7 +12,7 @@ use Rattle.spec_protocol_scope.specs.Queries.{queries}
 -- a protocol of these names
 abbrev pub protocol_of : Names → Process → List Query → Protocol
 protocol_of names main asked =
-    record { frees = names.frees; constructors = names.constructors; destructors = names.destructors; events = names.events; tables = []; queries = asked; main = main }
+    record { frees = names.frees; constructors = names.constructors; destructors = names.destructors; events = names.events; tables = names.tables; queries = asked; main = main }
 
 -- the protocol of a file that declares these names
 abbrev pub protocol_with : Texts → Names → FileSketch → Answer Protocol

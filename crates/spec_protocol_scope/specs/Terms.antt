@@ -5,7 +5,7 @@ use Rattle.spec_calculus.specs.Bounds.{most_arguments, most_written_symbols}
 use Rattle.spec_calculus.specs.Syntax.{Name, Free, Variable, Constructor, Tuple, Term, EventTerm}
 use Rattle.spec_protocol_grammar.specs.Sketch.{TermSketch, Named, Grouped, TermsSketch, none, more, AtomSketch}
 use Rattle.spec_protocol_scope.specs.Answers.{Answer, Unknown, Arity, Kind, LooseVariable, fault, within, ◌>>=◌}
-use Rattle.spec_protocol_scope.specs.Names.{Scope, Meaning, MeansFree, MeansConstructor, MeansDestructor, MeansEvent, MeansMacro, look, Bound, bound_as, variable_of}
+use Rattle.spec_protocol_scope.specs.Names.{Scope, Meaning, MeansFree, MeansConstructor, MeansDestructor, MeansEvent, MeansTable, MeansMacro, look, Bound, bound_as, variable_of}
 
 -- where a term stands: this tells what a bare identifier in it is
 pub data Setting : Type 0 where
@@ -33,6 +33,7 @@ declared_leaf n (MeansConstructor number arity is_data) =
     if nat_eq arity 0 then Ok (constant number) else fault Arity n
 declared_leaf n (MeansDestructor number arity) = fault Kind n
 declared_leaf n (MeansEvent number arity) = fault Kind n
+declared_leaf n (MeansTable number arity) = fault Kind n
 declared_leaf n MeansMacro = fault Kind n
 
 -- a variable of a rule or query, by its number; new where it stands first
@@ -109,6 +110,12 @@ event_named n given None = fault Unknown n
 event_named n given (Some (MeansEvent number arity)) = taking n number arity given
 event_named n given (Some meaning) = fault Kind n
 
+-- the table that is named so
+abbrev pub table_named : ℕ → ℕ → Option Meaning → Answer ℕ
+table_named n given None = fault Unknown n
+table_named n given (Some (MeansTable number arity)) = taking n number arity given
+table_named n given (Some meaning) = fault Kind n
+
 -- the term, where it has no more symbols than may be written
 abbrev pub sized : ℕ → Term → Answer Term
 sized n t = within (nat_le (size t) most_written_symbols) n t
@@ -155,3 +162,10 @@ event s setting variables a = do
   number ← event_named a.first (count a.arguments) (look s a.first)
   arguments ← terms s setting variables a.arguments
   Ok (record { event = number; arguments = arguments.0 }, arguments.1)
+
+-- an entry that a process writes below these binders: its table, and its terms
+abbrev pub entry : Scope → List Bound → AtomSketch → Answer (ℕ × List Term)
+entry s bound a = do
+  table ← table_named a.first (count a.arguments) (look s a.first)
+  arguments ← terms s (InProcess bound) [] a.arguments
+  Ok (table, arguments.0)

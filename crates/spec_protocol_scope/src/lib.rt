@@ -28,6 +28,7 @@ ghost use Rattle.spec_protocol_scope.specs.Processes.{main_process};
 ghost use Rattle.spec_protocol_scope.specs.Spells.{Spells, Refusal, Refuses, HasAnswer};
 ghost use Rattle.spec_protocol_scope.specs.Evaluated.{EachExpression, HasFullCalls, HasFewChoices};
 ghost use Rattle.spec_protocol_scope.specs.Words.{HasWords};
+ghost use Rattle.spec_protocol_scope.specs.Plain.{HasPlainWords};
 
 /// No bytes spell two protocols.
 pub fn one_protocol()
@@ -74,12 +75,15 @@ pub fn linear_patterns()
     ensures { (bytes : List ℕ) (p : Protocol) → Spells bytes p → HasLinearPatterns p.main }
 {}
 
-/// A protocol that bytes spell waits for no phase, declares no table and uses none, and asks of secrets in phase 0.
+/// A protocol that bytes spell without the words `phase`, `table`, `insert` and `get` waits for no phase, declares no table
+/// and uses none, and asks of secrets in phase 0.
 pub fn plain_protocols()
-    ensures process { (bytes : List ℕ) (p : Protocol) → Spells bytes p → IsPlain p.main }
-    ensures queries { (bytes : List ℕ) (p : Protocol) → Spells bytes p →
+    ensures process { (bytes : List ℕ) (p : Protocol) → Spells bytes p → HasPlainWords bytes →
+        IsPlain p.main }
+    ensures queries { (bytes : List ℕ) (p : Protocol) → Spells bytes p → HasPlainWords bytes →
         AllByRecursion IsPlainQuery p.queries }
-    ensures tables { (bytes : List ℕ) (p : Protocol) → Spells bytes p → p.tables ≡ [] }
+    ensures tables { (bytes : List ℕ) (p : Protocol) → Spells bytes p → HasPlainWords bytes →
+        p.tables ≡ [] }
 {}
 
 /// Secrets that a protocol asks of hold declared free names and constructors alone, and its correspondences declared free

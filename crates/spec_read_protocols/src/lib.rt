@@ -1,5 +1,5 @@
-//! What the laws of runs, translations and queries say of every protocol that the bytes of a file spell: without premises,
-//! since what they ask of a protocol holds of each that is spelled. The functions here have empty bodies.
+//! What the laws of runs, translations and queries say of every protocol that the bytes of a file spell. What they ask of
+//! a protocol holds of each that is spelled. The functions here have empty bodies.
 #![tactic(auto)]
 
 ghost use Rattle.std.specs.Prelude.{◌≡◌, ◌↔◌, ℕ, List, map, Some, IsNone, IsSome, Contains};
@@ -11,6 +11,7 @@ ghost use Rattle.spec_calculus.specs.Runs.{Configuration, Step, after_step};
 ghost use Rattle.spec_calculus.specs.Refusals.{refusal, IsUniform};
 ghost use Rattle.spec_calculus.specs.Secrecy.{Holds};
 ghost use Rattle.spec_protocol_scope.specs.Spells.{Spells};
+ghost use Rattle.spec_protocol_scope.specs.Plain.{HasPlainWords};
 ghost use Rattle.spec_terms.specs.Term.{Term};
 ghost use Rattle.spec_clauses.specs.Fact.{Clause};
 ghost use Rattle.spec_clauses.specs.Limits.{IsWithinLimit};
@@ -56,13 +57,13 @@ pub fn translations_of_read_protocols()
     translations_are_within_the_limit();
 }
 
-/// No phase but 0 and no table is spelled, and so each fact of each clause of the translation is of phase 0 or of none, and
-/// none is of a table.
+/// Without the words `phase`, `table`, `insert` and `get` no phase but 0 and no table is spelled, and so each fact of each
+/// clause of the translation is of phase 0 or of none, and none is of a table.
 pub fn clauses_of_read_protocols()
     ensures { (bytes : List ℕ) (P : Protocol) (q : Query) (all : List (Clause Term))
         (c : Clause Term) →
-        Spells bytes P → Contains P.queries q → IsTranslation P q (Clauses all) → Has all c →
-        IsPlainClause c }
+        Spells bytes P → HasPlainWords bytes → Contains P.queries q →
+        IsTranslation P q (Clauses all) → Has all c → IsPlainClause c }
 {
     plain_protocols();
     plain_protocols_have_plain_clauses();

@@ -63,21 +63,17 @@ module _ (P : Protocol) (n : ℕ) (small : n ≤ most_symbols) where
   all_may_stand (t ∷ ts) h b s = (may_stand t h.0 b.0 (omega (arith, s)), all_may_stand ts h.1 b.1 (omega (arith, s)))
 
   hypothesis_of : (f : Fact Term) → IsFactOver P f → AreBelow n (terms_of f) → fact_size f ≤ most_symbols → may_be_supposed f ≡ true → IsHypothesisOf P f
-  hypothesis_of (Att zero t) h b s e = may_stand t h.terms.0 b.0 (omega (arith, s))
-  hypothesis_of (Mess zero t u) h b s e = (may_stand t h.terms.0 b.0 (omega (arith, s)), may_stand u h.terms.1.0 b.1.0 (omega (arith, s)))
-  hypothesis_of (Att (suc k) t) h b s e = absurd h.predicate
-  hypothesis_of (Mess (suc k) t u) h b s e = absurd h.predicate
-  hypothesis_of (Tab table ts) h b s e = absurd h.predicate
+  hypothesis_of (Att phase t) h b s e = (h.predicate, may_stand t h.terms.0 b.0 (omega (arith, s)))
+  hypothesis_of (Mess phase t u) h b s e = (h.predicate, may_stand t h.terms.0 b.0 (omega (arith, s)), may_stand u h.terms.1.0 b.1.0 (omega (arith, s)))
+  hypothesis_of (Tab table ts) h b s e = (h.predicate, all_may_stand ts h.terms b (omega (arith, s)))
   hypothesis_of (Ev event ts) h b s e = (h.predicate, all_may_stand ts h.terms b (omega (arith, s)))
   hypothesis_of (Mev event ts) h b s e = (h.predicate, all_may_stand ts h.terms b (omega (arith, s)))
   hypothesis_of (Bad ts) h b s e = cc
 
   conclusion_of : (f : Fact Term) → IsFactOver P f → AreBelow n (terms_of f) → fact_size f ≤ most_symbols → may_be_concluded f ≡ true → IsConclusionOf P f
-  conclusion_of (Att zero t) h b s e = may_stand t h.terms.0 b.0 (omega (arith, s))
-  conclusion_of (Mess zero t u) h b s e = (may_stand t h.terms.0 b.0 (omega (arith, s)), may_stand u h.terms.1.0 b.1.0 (omega (arith, s)))
-  conclusion_of (Att (suc k) t) h b s e = absurd h.predicate
-  conclusion_of (Mess (suc k) t u) h b s e = absurd h.predicate
-  conclusion_of (Tab table ts) h b s e = absurd h.predicate
+  conclusion_of (Att phase t) h b s e = (h.predicate, may_stand t h.terms.0 b.0 (omega (arith, s)))
+  conclusion_of (Mess phase t u) h b s e = (h.predicate, may_stand t h.terms.0 b.0 (omega (arith, s)), may_stand u h.terms.1.0 b.1.0 (omega (arith, s)))
+  conclusion_of (Tab table ts) h b s e = (h.predicate, all_may_stand ts h.terms b (omega (arith, s)))
   conclusion_of (Ev event ts) h b s e = (h.predicate, all_may_stand ts h.terms b (omega (arith, s)))
   conclusion_of (Mev event ts) h b s e = cc
   conclusion_of (Bad ts) h b s e = all_may_stand ts h.terms b (omega (arith, s))

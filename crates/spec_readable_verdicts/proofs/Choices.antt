@@ -1,23 +1,27 @@
 -- The visits that a `let` goes on with are over the protocol, since the terms that are unified are.
-use Rattle.std.proofs.Common.{◌∙◌, ℕ, Option, Some, None, List, [], ◌∷◌, ◌++◌, map, ap, sym, subst}
+use Rattle.std.proofs.Common.{◌∙◌, ℕ, ◌+◌, Bool, Option, Some, None, List, [], ◌∷◌, ◌++◌, length, map, refl, ap, sym, subst, arith, length-append}
+use Rattle.std.proofs.lemmas.List.{length-map}
+use Rattle.spec_clauses.specs.Fact.{Tab}
+use Rattle.spec_clauses.proofs.Lists.{all_append}
 use Rattle.std.specs.Option.{IfSome}
 use Rattle.std.specs.List.{AllByRecursion}
-use Rattle.spec_calculus.specs.Syntax.{Name, Pattern, Expression, Ruled, Protocol}
+use Rattle.spec_calculus.specs.Syntax.{Name, Pattern, Expression, Condition, Ruled, Protocol}
+use Rattle.spec_calculus.specs.Tables.{row_pattern}
 use Rattle.spec_calculus.specs.Choices.{choices}
 use Rattle.spec_calculus.proofs.Items.{each-map}
 use Rattle.spec_well_formed.specs.Signature.{signature_of}
-use Rattle.spec_well_formed.specs.Terms.{IsPatternBelow, IsExpressionBelow, bound_by}
+use Rattle.spec_well_formed.specs.Terms.{IsPatternBelow, IsRowBelow, IsConditionBelow, IsExpressionBelow, HasArity, bound_by, bound_by_row}
 use Rattle.spec_well_formed.specs.WellFormed.{IsWellScoped}
 use Rattle.spec_terms.specs.Term.{Subst}
-use Rattle.spec_translation.specs.Conversion.{Fresh}
-use Rattle.spec_translation.specs.Visit.{Visit}
-use Rattle.spec_translation.specs.Choice.{Choice, choice_under, IsUnified, with_pattern, ruled_choice, GoesOn, EachGoesOn, AllGoOn}
-use Rattle.spec_certificate_text.specs.OfProtocol.{IsSymbolOf}
+use Rattle.spec_translation.specs.Conversion.{Fresh, pattern_term}
+use Rattle.spec_translation.specs.Visit.{Visit, after_entry}
+use Rattle.spec_translation.specs.Choice.{Choice, choice_under, IsUnified, with_pattern, ruled_choice, GoesOn, EachGoesOn, AllGoOn, left_of, right_of, entry_choice, EntryGoesOn}
+use Rattle.spec_certificate_text.specs.OfProtocol.{IsTable, IsSymbolOf}
 use Rattle.spec_readable_verdicts.proofs.Over.{cleaned, cleaned_under, cleaned-bind, cleaned-binds, most_general-over}
 use Rattle.spec_readable_verdicts.proofs.Symbols.{symbol}
-use Rattle.spec_readable_verdicts.proofs.Facts.{IsTermOver, AreTermsOver}
+use Rattle.spec_readable_verdicts.proofs.Facts.{IsTermOver, AreTermsOver, IsFactOver}
 use Rattle.spec_readable_verdicts.proofs.Applied.{IsRuledBelow, choices_below, value_over, arguments_over, sides_over}
-use Rattle.spec_readable_verdicts.proofs.Scopes.{IsVisitOver, pattern_over, scope_with, found_with, visit_over-under}
+use Rattle.spec_readable_verdicts.proofs.Scopes.{IsVisitOver, term_in_over, pattern_over, row_over, scope_with, found_with, visit_over-under}
 
 module _ (P : Protocol) (scoped : IsWellScoped P) where
   -- the terms of a choice
@@ -78,3 +82,43 @@ module _ (P : Protocol) (scoped : IsWellScoped P) where
     pub all_go_over : (expression : Expression) → IsExpressionBelow (signature_of P) bound expression → (outs : List (Option Visit)) → AllGoOn P v pattern expression outs → GoOver outs
     all_go_over expression below outs a =
         each_goes_over (map (λ c. c.ruled) (choices P expression)) (each-map (IsRuledBelow P scoped bound) (λ c. c.ruled) (choices P expression) (choices_below P scoped bound expression below.terms below.heads)) outs a
+
+  -- The entry of a `get`.
+  module _ (bound : List Name) (above : ℕ) (v : Visit) (is : IsVisitOver P bound above v) (table : ℕ) (patterns : List Pattern) (declared : HasArity (signature_of P).tables table (length patterns)) (fits : IsRowBelow (signature_of P) bound patterns) where
+    entry_over : (at : Fresh) → IsVisitOver P (bound_by_row patterns ++ bound) (above + length patterns) (after_entry P v table patterns at)
+    entry_over at =
+        let terms = map (pattern_term P v.scope at) patterns in
+        let over = row_over P bound above v is at patterns fits in
+        let many = length-map patterns (pattern_term P v.scope at) in
+        let in_table : IsTable P table (length terms) = record { declared = declared.declared; there = declared.stands; arity = declared.is ∙ sym many } in record {
+          scope = scope_with P bound above v is at (row_pattern patterns);
+          found = found_with P bound above v is at (row_pattern patterns);
+          hypotheses = all_append (IsFactOver P) v.hypotheses (Tab table terms ∷ []) is.hypotheses (record { predicate = in_table; terms = over }, tt);
+          messages = all_append (IsTermOver P) v.messages terms is.messages over;
+          sessions = is.sessions;
+          count = omega (arith, length-append v.messages terms, many, is.count);
+          phase = is.phase;
+        }
+
+    -- its condition's terms are over the protocol, so what unifies them is
+    left_over : (w : Visit) → IsVisitOver P (bound_by_row patterns ++ bound) (above + length patterns) w → (condition : Condition) → IsConditionBelow (signature_of P) (bound_by_row patterns ++ bound) condition → AreTermsOver P (left_of P w.scope condition)
+    left_over w over None met = tt
+    left_over w over (Some (left, right)) met = (term_in_over P (bound_by_row patterns ++ bound) (above + length patterns) w over left met.0, tt)
+
+    right_over : (w : Visit) → IsVisitOver P (bound_by_row patterns ++ bound) (above + length patterns) w → (condition : Condition) → IsConditionBelow (signature_of P) (bound_by_row patterns ++ bound) condition → AreTermsOver P (right_of P w.scope condition)
+    right_over w over None met = tt
+    right_over w over (Some (left, right)) met = (term_in_over P (bound_by_row patterns ++ bound) (above + length patterns) w over right met.1.0, tt)
+
+    pub entry_goes_over : (condition : Condition) → IsConditionBelow (signature_of P) (bound_by_row patterns ++ bound) condition → (large : Bool) (out : Option Visit) → EntryGoesOn P v table patterns condition large out
+        → IfSome out (IsVisitOver P (bound_by_row patterns ++ bound) (above + length patterns))
+    entry_goes_over condition met large None goes = tt
+    entry_goes_over condition met large (Some w) goes =
+        let c = entry_choice P v table patterns condition goes.at in
+        let over = entry_over goes.at in
+        let left = left_over c.visit over condition met in
+        let right = right_over c.visit over condition met in
+        let (s, most, made) = goes.goes_on in
+        let cleans : IsUnified (choice_under s c) → IsUnified (choice_under (cleaned_of s) c) =
+        λ e. (sym (cleaned-binds (IsSymbolOf P) (symbol P) s c.arguments left) ∙ (ap (map (cleaned (IsSymbolOf P) (symbol P))) e.0 ∙ cleaned-binds (IsSymbolOf P) (symbol P) s c.sides right), refl) in
+        let each = most_general-over (IsSymbolOf P) (symbol P) (λ r. IsUnified (choice_under r c)) s most (cleans most.accepted) in
+        subst (IsVisitOver P (bound_by_row patterns ++ bound) (above + length patterns)) (sym made) (visit_over-under P (bound_by_row patterns ++ bound) (above + length patterns) c.visit over s each)

@@ -1,6 +1,6 @@
--- Facts and clauses over a protocol: each symbol and each event is one of the protocol's, with its number of arguments, and facts are of phase 0
--- and of no table. So it stays under substitutions, in flat parts and in norms.
-use Rattle.std.proofs.Common.{◌≡◌, ℕ, zero, suc, true, false, cond, List, [], ◌∷◌, map, length, refl, sym, subst, arith}
+-- Facts and clauses over a protocol: each symbol and each event is one of the protocol's, with its number of arguments, and so is
+-- each table, and phases are the protocol's. So it stays under substitutions, in flat parts and in norms.
+use Rattle.std.proofs.Common.{◌≡◌, ℕ, true, false, cond, List, [], ◌∷◌, map, length, refl, sym, subst, arith}
 use Rattle.std.specs.Prelude.{flat_map}
 use Rattle.std.specs.List.{AllByRecursion}
 use Rattle.std.proofs.lemmas.List.{length-map}
@@ -19,7 +19,7 @@ use Rattle.spec_clauses.proofs.Norm.{few, simplified, norm_made}
 use Rattle.spec_clauses.proofs.NormKeeps.{few-within, generalized_or}
 use Rattle.spec_clauses.proofs.NormAnswers.{norms-source}
 use Rattle.spec_translation.proofs.Goal.{all_at, all_of_each}
-use Rattle.spec_certificate_text.specs.OfProtocol.{IsEvent, IsSymbolOf}
+use Rattle.spec_certificate_text.specs.OfProtocol.{IsEvent, IsTable, IsPhase, IsSymbolOf}
 use Rattle.spec_readable_verdicts.proofs.Over.{bind-over}
 
 -- a term over the protocol's symbols
@@ -29,13 +29,14 @@ IsTermOver P t = EachSymbol (IsSymbolOf P) t
 abbrev pub AreTermsOver : Protocol → List Term → Type 0
 AreTermsOver P ts = AllByRecursion (IsTermOver P) ts
 
--- the fact is of phase 0 and of no table; its event is one of the protocol's, with as many arguments
+pub zero_phase : (P : Protocol) → IsPhase P 0
+zero_phase P = (omega arith, omega arith)
+
+-- the fact's phase is one of the protocol's, or its event or its table, with as many arguments
 abbrev pub HasPredicateOf : Protocol → Fact Term → Type 0
-HasPredicateOf P (Att zero t) = Unit {0}
-HasPredicateOf P (Att (suc k) t) = ⊥
-HasPredicateOf P (Mess zero t u) = Unit {0}
-HasPredicateOf P (Mess (suc k) t u) = ⊥
-HasPredicateOf P (Tab table ts) = ⊥
+HasPredicateOf P (Att phase t) = IsPhase P phase
+HasPredicateOf P (Mess phase t u) = IsPhase P phase
+HasPredicateOf P (Tab table ts) = IsTable P table (length ts)
 HasPredicateOf P (Ev event ts) = IsEvent P event (length ts)
 HasPredicateOf P (Mev event ts) = IsEvent P event (length ts)
 HasPredicateOf P (Bad ts) = Unit {0}
@@ -67,11 +68,9 @@ module _ (P : Protocol) where
   terms_over-under s each (t ∷ ts) h = (bind-over (IsSymbolOf P) s each t h.0, terms_over-under s each ts h.1)
 
   pub fact_over-under : (s : Subst) → ((x : ℕ) → IsTermOver P (s x)) → (f : Fact Term) → IsFactOver P f → IsFactOver P (fact_under s f)
-  fact_over-under s each (Att (suc k) t) h = absurd h.predicate
-  fact_over-under s each (Mess (suc k) t u) h = absurd h.predicate
-  fact_over-under s each (Tab n ts) h = absurd h.predicate
-  fact_over-under s each (Att zero t) h = record { predicate = tt; terms = terms_over-under s each (t ∷ []) h.terms }
-  fact_over-under s each (Mess zero t u) h = record { predicate = tt; terms = terms_over-under s each (t ∷ u ∷ []) h.terms }
+  fact_over-under s each (Att phase t) h = record { predicate = h.predicate; terms = terms_over-under s each (t ∷ []) h.terms }
+  fact_over-under s each (Mess phase t u) h = record { predicate = h.predicate; terms = terms_over-under s each (t ∷ u ∷ []) h.terms }
+  fact_over-under s each (Tab table ts) h = record { predicate = subst (IsTable P table) (sym (length-map ts (bind s))) h.predicate; terms = terms_over-under s each ts h.terms }
   fact_over-under s each (Ev event ts) h = record { predicate = subst (IsEvent P event) (sym (length-map ts (bind s))) h.predicate; terms = terms_over-under s each ts h.terms }
   fact_over-under s each (Mev event ts) h = record { predicate = subst (IsEvent P event) (sym (length-map ts (bind s))) h.predicate; terms = terms_over-under s each ts h.terms }
   fact_over-under s each (Bad ts) h = record { predicate = tt; terms = terms_over-under s each ts h.terms }
@@ -95,15 +94,14 @@ module _ (P : Protocol) where
     row_parts_over none h = tt
     row_parts_over (more t ts) h = all_append (IsTermOver P) (parts t) (row_parts ts) (parts_over t h.0) (row_parts_over ts h.1)
 
-  pub known_over : (ts : List Term) → AreTermsOver P ts → AllByRecursion (IsFactOver P) (map (Att 0) ts)
-  known_over [] h = tt
-  known_over (t ∷ ts) h = (record { predicate = tt; terms = (h.0, tt) }, known_over ts h.1)
+  pub known_over : (phase : ℕ) → IsPhase P phase → (ts : List Term) → AreTermsOver P ts → AllByRecursion (IsFactOver P) (map (Att phase) ts)
+  known_over phase is [] h = tt
+  known_over phase is (t ∷ ts) h = (record { predicate = is; terms = (h.0, tt) }, known_over phase is ts h.1)
 
   flat_over : (f : Fact Term) → IsFactOver P f → AllByRecursion (IsFactOver P) (flat f)
-  flat_over (Att (suc k) t) h = absurd h.predicate
+  flat_over (Att phase t) h = known_over phase h.predicate (parts t) (parts_over t h.terms.0)
   flat_over (Mess phase t u) h = (h, tt)
   flat_over (Tab n ts) h = (h, tt)
-  flat_over (Att zero t) h = known_over (parts t) (parts_over t h.terms.0)
   flat_over (Ev event ts) h = (h, tt)
   flat_over (Mev event ts) h = (h, tt)
   flat_over (Bad ts) h = (h, tt)
@@ -117,22 +115,19 @@ module _ (P : Protocol) where
       })
 
   -- norms
-  first_phase : (f : Fact Term) → HasPredicateOf P f → phase_of f ≡ 0
-  first_phase (Att zero t) h = refl
-  first_phase (Att (suc k) t) h = absurd h
-  first_phase (Mess zero t u) h = refl
-  first_phase (Mess (suc k) t u) h = absurd h
-  first_phase (Tab n ts) h = refl
-  first_phase (Ev event ts) h = refl
-  first_phase (Mev event ts) h = refl
-  first_phase (Bad ts) h = refl
+  own_phase : (f : Fact Term) → HasPredicateOf P f → IsPhase P (phase_of f)
+  own_phase (Att phase t) h = h
+  own_phase (Mess phase t u) h = h
+  own_phase (Tab n ts) h = zero_phase P
+  own_phase (Ev event ts) h = zero_phase P
+  own_phase (Mev event ts) h = zero_phase P
+  own_phase (Bad ts) h = zero_phase P
 
-  everything_over : (k : ℕ) → k ≡ 0 → IsClauseOver P (everything_known k)
-  everything_over zero e = record { hypotheses = tt; conclusion = record { predicate = tt; terms = (tt, tt) } }
-  everything_over (suc k) e = absurd (omega (arith, e))
+  everything_over : (k : ℕ) → IsPhase P k → IsClauseOver P (everything_known k)
+  everything_over k is = record { hypotheses = tt; conclusion = record { predicate = is; terms = (tt, tt) } }
 
   simplified_over : (c : Clause Term) → IsClauseOver P c → IsClauseOver P (simplified c)
-  simplified_over c h = generalized_or (few c) (IsClauseOver P) (λ x e. everything_over (phase_of c.conclusion) (first_phase c.conclusion h.conclusion.predicate)) (record {
+  simplified_over c h = generalized_or (few c) (IsClauseOver P) (λ x e. everything_over (phase_of c.conclusion) (own_phase c.conclusion h.conclusion.predicate)) (record {
     hypotheses = all_of_each (IsFactOver P) (few c).hypotheses (λ f there. all_at (IsFactOver P) (Has-within (few c).hypotheses c.hypotheses f (few-within c) there).1 h.hypotheses);
     conclusion = h.conclusion;
   })

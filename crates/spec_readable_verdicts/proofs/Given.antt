@@ -7,8 +7,7 @@ use Rattle.spec_trees.specs.Tree.{node}
 use Rattle.spec_trees.proofs.Equality.{and_true}
 use Rattle.spec_calculus.specs.Syntax.{Name, Made, Variable, Process, Nil, Output, Input, Parallel, Replication, New, Let, Event, Phase, Insert, Get, Rule, Declared, Query, Secret, SecretNew, Correspondence, Protocol}
 use Rattle.spec_calculus.specs.Syntax as calculus
-use Rattle.spec_calculus.specs.Plain.{IsPlain, IsPlainQuery}
-use Rattle.spec_calculus.specs.Points.{numbered, nodes, is_restriction, name_arguments}
+use Rattle.spec_calculus.specs.Points.{numbered, nodes, is_restriction, name_arguments, greatest_phase}
 use Rattle.spec_well_formed.specs.Signature.{signature_of}
 use Rattle.spec_well_formed.specs.Rules.{IsVariable}
 use Rattle.spec_well_formed.specs.Queries.{IsDeclaredFree, IsFreeOrVariable, HasQueryLeaves, IsRestrictionAt}
@@ -18,14 +17,12 @@ use Rattle.spec_terms.specs.Term.{Ctor, Point, Term}
 use Rattle.spec_clauses.specs.Fact.{Att, Clause}
 use Rattle.spec_clauses.proofs.Lists.{all_append, all-flat_map, all_weaker}
 use Rattle.spec_translation.specs.Conversion.{free_term, rule_leaf, rule_term}
-use Rattle.spec_translation.specs.Attacker.{variables_from, name_known, fresh_known, constructor_applied, rule_applied, message_heard, message_sent, attacker_raw}
-use Rattle.spec_translation.specs.Plain.{plain_attacker}
-use Rattle.spec_translation.proofs.Plain.{attacker_of_one_phase}
+use Rattle.spec_translation.specs.Attacker.{variables_from, name_known, fresh_known, constructor_applied, rule_applied, message_heard, message_sent, done_in, kept_known, done_after, attacker_raw}
 use Rattle.spec_translation.specs.Goal.{query_leaf, event_variables, arguments_at, goal_raw}
 use Rattle.spec_abstraction.proofs.Standing.{levels, level_arguments, levels_count}
 use Rattle.spec_saturation.proofs.Places.{numbered_within}
-use Rattle.spec_certificate_text.specs.OfProtocol.{IsShort, IsRestriction, IsSymbolOf}
-use Rattle.spec_readable_verdicts.proofs.Facts.{IsTermOver, AreTermsOver, IsFactOver, IsClauseOver, node_over, known_over}
+use Rattle.spec_certificate_text.specs.OfProtocol.{IsShort, IsPhase, IsRestriction, IsSymbolOf}
+use Rattle.spec_readable_verdicts.proofs.Facts.{IsTermOver, AreTermsOver, IsFactOver, IsClauseOver, zero_phase, node_over, known_over}
 use Rattle.spec_readable_verdicts.proofs.Conversion.{there_at, free_over, term_over, terms_over, event_over}
 
 -- each item stands at the number that it is listed with
@@ -97,22 +94,22 @@ module _ (P : Protocol) (scoped : IsWellScoped P) where
     made = record { hypotheses = []; diffs = []; conclusion = Att 0 (free_term x.0) }
 
     go : (b : Bool) → cond b (Some made) None ≡ Some raw → IsClauseOver P raw
-    go true k = let same : made ≡ raw = cc in subst (IsClauseOver P) same (record { hypotheses = tt; conclusion = record { predicate = tt; terms = (((record { declared = x.1; there = at }, refl), tt), tt) } })
+    go true k = let same : made ≡ raw = cc in subst (IsClauseOver P) same (record { hypotheses = tt; conclusion = record { predicate = zero_phase P; terms = (((record { declared = x.1; there = at }, refl), tt), tt) } })
     go false k = cc
 
-  constructor_over : (x : ℕ × Declared) (raw : Clause Term) → numbered P.constructors x.0 ≡ Some x.1 → constructor_applied 0 x ≡ Some raw → IsClauseOver P raw
-  constructor_over x raw at e = go (x.1.public && not x.1.is_data) refl e where
+  constructor_over : (phase : ℕ) → IsPhase P phase → (x : ℕ × Declared) (raw : Clause Term) → numbered P.constructors x.0 ≡ Some x.1 → constructor_applied phase x ≡ Some raw → IsClauseOver P raw
+  constructor_over phase in_phase x raw at e = go (x.1.public && not x.1.is_data) refl e where
     arguments : List Term
     arguments = variables_from 0 x.1.arity
 
     made : Clause Term
-    made = record { hypotheses = map (Att 0) arguments; diffs = []; conclusion = Att 0 (node (Ctor x.0) arguments) }
+    made = record { hypotheses = map (Att phase) arguments; diffs = []; conclusion = Att phase (node (Ctor x.0) arguments) }
 
     made_over : x.1.is_data ≡ false → IsClauseOver P made
     made_over plain = record {
-      hypotheses = known_over P arguments (variables_over P 0 x.1.arity);
+      hypotheses = known_over P phase in_phase arguments (variables_over P 0 x.1.arity);
       conclusion = record {
-        predicate = tt;
+        predicate = in_phase;
         terms = (node_over P (Ctor x.0) arguments (record { declared = x.1; there = at; data_is = plain; arity = sym (length-variables 0 x.1.arity) }) (variables_over P 0 x.1.arity), tt);
       };
     }
@@ -130,43 +127,64 @@ module _ (P : Protocol) (scoped : IsWellScoped P) where
   rule_leaf_over base (Made p) h = absurd h
   rule_leaf_over base (Variable i) h = tt
 
-  known_terms : (ts : List calculus.Term) → AreTermsOver P (map (rule_term P 0) ts) → AllByRecursion (IsFactOver P) (map (λ t. Att 0 (rule_term P 0 t)) ts)
-  known_terms [] h = tt
-  known_terms (t ∷ ts) h = (record { predicate = tt; terms = (h.0, tt) }, known_terms ts h.1)
+  known_terms : (phase : ℕ) → IsPhase P phase → (ts : List calculus.Term) → AreTermsOver P (map (rule_term P 0) ts) → AllByRecursion (IsFactOver P) (map (λ t. Att phase (rule_term P 0 t)) ts)
+  known_terms phase is [] h = tt
+  known_terms phase is (t ∷ ts) h = (record { predicate = is; terms = (h.0, tt) }, known_terms phase is ts h.1)
 
-  rule_over : (rule : Rule) → IsRuleOver (signature_of P) rule → IsClauseOver P (rule_applied P 0 rule)
-  rule_over rule h = record {
-    hypotheses = known_terms rule.left (terms_over P (rule_leaf 0) IsVariable (rule_leaf_over 0) rule.left h.left);
-    conclusion = record { predicate = tt; terms = (term_over P (rule_leaf 0) IsVariable (rule_leaf_over 0) rule.right h.right, tt) };
+  rule_over : (phase : ℕ) → IsPhase P phase → (rule : Rule) → IsRuleOver (signature_of P) rule → IsClauseOver P (rule_applied P phase rule)
+  rule_over phase is rule h = record {
+    hypotheses = known_terms phase is rule.left (terms_over P (rule_leaf 0) IsVariable (rule_leaf_over 0) rule.left h.left);
+    conclusion = record { predicate = is; terms = (term_over P (rule_leaf 0) IsVariable (rule_leaf_over 0) rule.right h.right, tt) };
   }
 
-  rules_over : (rules : List Rule) → AllByRecursion (IsRuleOver (signature_of P)) rules → AllByRecursion (IsClauseOver P) (map (rule_applied P 0) rules)
-  rules_over [] h = tt
-  rules_over (rule ∷ rules) h = (rule_over rule h.0, rules_over rules h.1)
+  rules_over : (phase : ℕ) → IsPhase P phase → (rules : List Rule) → AllByRecursion (IsRuleOver (signature_of P)) rules → AllByRecursion (IsClauseOver P) (map (rule_applied P phase) rules)
+  rules_over phase is [] h = tt
+  rules_over phase is (rule ∷ rules) h = (rule_over phase is rule h.0, rules_over phase is rules h.1)
 
-  fixed_over : IsClauseOver P fresh_known × IsClauseOver P (message_heard 0) × IsClauseOver P (message_sent 0)
-  fixed_over = (
-    record { hypotheses = tt; conclusion = record { predicate = tt; terms = ((refl, (tt, tt)), tt) } },
-    record { hypotheses = (record { predicate = tt; terms = (tt, (tt, tt)) }, (record { predicate = tt; terms = (tt, tt) }, tt)); conclusion = record { predicate = tt; terms = (tt, tt) } },
-    record { hypotheses = (record { predicate = tt; terms = (tt, tt) }, (record { predicate = tt; terms = (tt, tt) }, tt)); conclusion = record { predicate = tt; terms = (tt, (tt, tt)) } },
-  )
+  fresh_over : IsClauseOver P fresh_known
+  fresh_over = record { hypotheses = tt; conclusion = record { predicate = zero_phase P; terms = ((refl, (tt, tt)), tt) } }
 
-  -- the attacker's raw clauses, where there is one phase
-  plain_over : AllByRecursion (IsClauseOver P) (plain_attacker P)
-  plain_over =
-      let rules = flat_map (λ destructor. map (rule_applied P 0) destructor.rules) P.destructors in
-      let last = message_heard 0 ∷ message_sent 0 ∷ [] in
-      let constructors = filter_map (constructor_applied 0) (enumerate_from 1 P.constructors) in
+  heard_over : (phase : ℕ) → IsPhase P phase → IsClauseOver P (message_heard phase)
+  heard_over phase is =
+      record { hypotheses = (record { predicate = is; terms = (tt, (tt, tt)) }, (record { predicate = is; terms = (tt, tt) }, tt)); conclusion = record { predicate = is; terms = (tt, tt) } }
+
+  spoken_over : (phase : ℕ) → IsPhase P phase → IsClauseOver P (message_sent phase)
+  spoken_over phase is =
+      record { hypotheses = (record { predicate = is; terms = (tt, tt) }, (record { predicate = is; terms = (tt, tt) }, tt)); conclusion = record { predicate = is; terms = (tt, (tt, tt)) } }
+
+  -- the attacker's raw clauses of a phase
+  done_over : (phase : ℕ) → IsPhase P phase → AllByRecursion (IsClauseOver P) (done_in P phase)
+  done_over phase is =
+      let rules = flat_map (λ destructor. map (rule_applied P phase) destructor.rules) P.destructors in
+      let last = message_heard phase ∷ message_sent phase ∷ [] in
+      let constructors = filter_map (constructor_applied phase) (enumerate_from 1 P.constructors) in
       let behind = all_append (IsClauseOver P) rules last
-      (all-flat_map (IsClauseOver P) (λ destructor. map (rule_applied P 0) destructor.rules) P.destructors
-      (all_weaker (λ destructor. AllByRecursion (IsRuleOver (signature_of P)) destructor.rules) (λ destructor. AllByRecursion (IsClauseOver P) (map (rule_applied P 0) destructor.rules)) (λ d h. rules_over d.rules h) P.destructors scoped.rules))
-      (fixed_over.1, (fixed_over.2, tt)) in
-      all_append (IsClauseOver P) (filter_map name_known (enumerate_from 1 P.frees)) (fresh_known ∷ (constructors ++ (rules ++ last)))
-      (all_made (IsClauseOver P) (λ p. numbered P.frees p.0 ≡ Some p.1) name_known name_over (enumerate_from 1 P.frees) (enumerated P.frees))
-      (fixed_over.0, all_append (IsClauseOver P) constructors (rules ++ last) (all_made (IsClauseOver P) (λ p. numbered P.constructors p.0 ≡ Some p.1) (constructor_applied 0) constructor_over (enumerate_from 1 P.constructors) (enumerated P.constructors)) behind)
+      (all-flat_map (IsClauseOver P) (λ destructor. map (rule_applied P phase) destructor.rules) P.destructors
+      (all_weaker (λ destructor. AllByRecursion (IsRuleOver (signature_of P)) destructor.rules) (λ destructor. AllByRecursion (IsClauseOver P) (map (rule_applied P phase) destructor.rules)) (λ d h. rules_over phase is d.rules h) P.destructors scoped.rules))
+      (heard_over phase is, (spoken_over phase is, tt)) in
+      all_append (IsClauseOver P) constructors (rules ++ last)
+      (all_made (IsClauseOver P) (λ p. numbered P.constructors p.0 ≡ Some p.1) (constructor_applied phase) (constructor_over phase is) (enumerate_from 1 P.constructors) (enumerated P.constructors)) behind
 
-  pub attacker_over : IsPlain P.main → AllByRecursion (IsClauseOver P) (attacker_raw P)
-  attacker_over plain = subst (AllByRecursion (IsClauseOver P)) (sym (attacker_of_one_phase P plain)) plain_over
+  kept_over : (phase : ℕ) → IsPhase P phase → IsPhase P (phase + 1) → IsClauseOver P (kept_known phase)
+  kept_over phase is next = record { hypotheses = (record { predicate = is; terms = (tt, tt) }, tt); conclusion = record { predicate = next; terms = (tt, tt) } }
+
+  module _ (limits : IsWithinLimits P) where
+    pub phase_within : (phase : ℕ) → phase ≤ greatest_phase P.main → IsPhase P phase
+    phase_within phase within = (within, omega (arith, within, limits.phases))
+
+    -- and of each later one
+    later_over : (phase count : ℕ) → phase + count ≤ greatest_phase P.main → AllByRecursion (IsClauseOver P) (done_after P phase count)
+    later_over phase zero within = tt
+    later_over phase (suc count) within =
+        let next = phase_within (phase + 1) (omega (arith, within)) in
+        (kept_over phase (phase_within phase (omega (arith, within))) next, all_append (IsClauseOver P) (done_in P (phase + 1)) (done_after P (phase + 1) count) (done_over (phase + 1) next) (later_over (phase + 1) count (omega (arith, within))))
+
+    pub attacker_over : AllByRecursion (IsClauseOver P) (attacker_raw P)
+    attacker_over =
+        let phases = greatest_phase P.main in
+        all_append (IsClauseOver P) (filter_map name_known (enumerate_from 1 P.frees)) (fresh_known ∷ (done_in P 0 ++ done_after P 0 phases))
+        (all_made (IsClauseOver P) (λ p. numbered P.frees p.0 ≡ Some p.1) name_known name_over (enumerate_from 1 P.frees) (enumerated P.frees))
+        (fresh_over, all_append (IsClauseOver P) (done_in P 0) (done_after P 0 phases) (done_over 0 (zero_phase P)) (later_over 0 phases (omega arith)))
 
   -- the goal's raw clause
   query_leaf_over : (x : Name) → IsFreeOrVariable (signature_of P) x → IsTermOver P (query_leaf x)
@@ -183,22 +201,20 @@ module _ (P : Protocol) (scoped : IsWellScoped P) where
   variables_known [] = tt
   variables_known (i ∷ is) = (tt, variables_known is)
 
-  pub goal_over : IsWithinLimits P → (q : Query) → IsQueryOver (signature_of P) q → HasQueryLeaves P q → IsPlainQuery q → IsClauseOver P (goal_raw P q)
-  goal_over limits (Secret message (suc k)) h leaves plain = absurd (omega (arith, plain))
-  goal_over limits (SecretNew point (suc k)) h leaves plain = absurd (omega (arith, plain))
-  goal_over limits (Secret message zero) h leaves plain = record {
-    hypotheses = (record { predicate = tt; terms = (term_over P query_leaf (IsDeclaredFree (signature_of P)) secret_leaf_over message h, tt) }, tt);
+  pub goal_over : IsWithinLimits P → (q : Query) → IsQueryOver (signature_of P) q → HasQueryLeaves P q → IsClauseOver P (goal_raw P q)
+  goal_over limits (Secret message phase) h leaves = record {
+    hypotheses = (record { predicate = phase_within limits phase leaves.1; terms = (term_over P query_leaf (IsDeclaredFree (signature_of P)) secret_leaf_over message h, tt) }, tt);
     conclusion = record { predicate = tt; terms = tt };
   }
-  goal_over limits (SecretNew point zero) h leaves plain =
+  goal_over limits (SecretNew point phase) h leaves =
       let count = arguments_at P point in
       let arguments = variables_from 0 count in
       let there : IsRestriction P point count = restriction_asked P point leaves.0 in
       let symbol : IsSymbolOf P (Point point) (length arguments) = (subst (IsRestriction P point) (sym (length-variables 0 count)) there, point_short P limits point leaves.0.node leaves.0.stands) in record {
-        hypotheses = (record { predicate = tt; terms = (node_over P (Point point) arguments symbol (variables_over P 0 count), tt) }, tt);
+        hypotheses = (record { predicate = phase_within limits phase leaves.1; terms = (node_over P (Point point) arguments symbol (variables_over P 0 count), tt) }, tt);
         conclusion = record { predicate = tt; terms = tt };
       }
-  goal_over limits (Correspondence left alternatives) h leaves plain =
+  goal_over limits (Correspondence left alternatives) h leaves =
       let e = event_over P query_leaf (IsFreeOrVariable (signature_of P)) query_leaf_over left h.0 in record {
         hypotheses = (record { predicate = e.0; terms = e.1 }, tt);
         conclusion = record { predicate = tt; terms = variables_known (event_variables left) };

@@ -1,7 +1,6 @@
 -- The certificate of a query that is proved may stand in a text.
 use Rattle.std.proofs.Common.{ℕ, ◌≤◌, ◌&&◌, List, ◌++◌, length, inl, inr, arith}
 use Rattle.spec_calculus.specs.Bounds.{most_clauses, most_budget}
-use Rattle.spec_calculus.specs.Plain.{IsPlain, IsPlainQuery}
 use Rattle.spec_calculus.specs.Syntax.{Query, Protocol}
 use Rattle.spec_well_formed.specs.Signature.{signature_of}
 use Rattle.spec_well_formed.specs.Limits.{IsSmallQuery, IsWithinLimits}
@@ -17,7 +16,7 @@ use Rattle.spec_clauses.proofs.Lists.{all_append}
 use Rattle.spec_translation.specs.Satisfied.{is_bad}
 use Rattle.spec_translation.specs.Translation.{Clauses, IsTranslation}
 use Rattle.spec_translation.proofs.Goal.{all_at, all_of_each, clauses_placed}
-use Rattle.spec_translation.proofs.Plain.{clauses_plain}
+use Rattle.spec_translation.proofs.Unconstrained.{clauses_bare}
 use Rattle.spec_translation.proofs.Sizes.{clauses_within}
 use Rattle.spec_certificates.specs.Certificate.{Certificate, IsInShape}
 use Rattle.spec_verdicts.specs.First.{all_pairs}
@@ -37,15 +36,13 @@ pub record IsAsked (P : Protocol) (q : Query) : Type 0 where
   pub small : IsSmallQuery q
   pub over : IsQueryOver (signature_of P) q
   pub leaves : HasQueryLeaves P q
-  pub plain : IsPlain P.main
-  pub plain_query : IsPlainQuery q
 
 module _ (P : Protocol) (q : Query) (asked : IsAsked P q) (budget : ℕ) (most : budget ≤ most_budget) (cert : Certificate) where
   module _ (given : List (Clause Term)) (translated : IsTranslation P q (Clauses given)) (p : IsProved P q given budget cert) where
     given_kept : (c : Clause Term) → Has given c → IsKept P c
     given_kept c h =
-        let each = translation_over P asked.limits asked.scoped asked.plain q asked.over asked.leaves asked.plain_query given translated in
-        record { over = all_at (IsClauseOver P) h.1 each; none = (clauses_plain P q given c asked.plain asked.plain_query translated h).no_diffs; placed = clauses_placed P q given translated c h }
+        let each = translation_over P asked.limits asked.scoped q asked.over asked.leaves given translated in
+        record { over = all_at (IsClauseOver P) h.1 each; none = clauses_bare P q given c translated h; placed = clauses_placed P q given translated c h }
 
     shape : (c : Clause Term) → Has cert.clauses c → IsInShape q c
     shape = live_shape P q given translated asked.limits asked.small budget p.log cert.clauses p.is_log p.live

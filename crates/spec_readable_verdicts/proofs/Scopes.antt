@@ -4,25 +4,25 @@ use Rattle.std.proofs.Common.{◌≡◌, ◌∙◌, ℕ, ◌+◌, Bool, true, fa
 use Rattle.std.specs.Prelude.{filter_map, option_map, unwrap_or}
 use Rattle.std.specs.List.{AllByRecursion}
 use Rattle.std.proofs.lemmas.List.{length-map}
-use Rattle.spec_trees.specs.Tree.{bind}
-use Rattle.spec_trees.specs.Leaves.{leaves}
+use Rattle.spec_trees.specs.Tree.{trees, bind}
+use Rattle.spec_trees.specs.Leaves.{leaves, row_leaves}
 use Rattle.spec_calculus.specs.Syntax.{Name, Made, Variable, Hole, Bind, Equal, Pattern, Protocol}
 use Rattle.spec_calculus.specs.Syntax as calculus
 use Rattle.spec_calculus.specs.Values.{same_name}
 use Rattle.spec_calculus.proofs.Rules.{same_name-refl}
 use Rattle.spec_well_formed.specs.Signature.{signature_of}
-use Rattle.spec_well_formed.specs.Terms.{IsKnown, IsTermBelow, IsPatternBelow, IsHoleBelow, TakesPatterns, bound_by_hole, bound_by}
+use Rattle.spec_well_formed.specs.Terms.{IsKnown, IsTermBelow, IsPatternBelow, IsRowBelow, IsHoleBelow, EachSymbolInRow, TakesPatterns, bound_by_hole, bound_by}
 use Rattle.spec_terms.specs.Term.{Term, Subst}
 use Rattle.spec_clauses.specs.Fact.{Att, Mess}
 use Rattle.spec_clauses.specs.Inclusion.{Has}
 use Rattle.spec_clauses.proofs.Inclusion.{Has-append, Has-one, Has-from_Contains}
-use Rattle.spec_clauses.proofs.Lists.{all_append, all_weaker}
+use Rattle.spec_clauses.proofs.Lists.{all_append, all_first, all_second, all_weaker}
 use Rattle.spec_translation.specs.Conversion.{StandsFor, Scope, free_term, found_in, leaf_term, term_in, Fresh, fresh_leaf, hole_term, pattern_term, hole_standing, pattern_scope}
 use Rattle.spec_translation.specs.Visit.{Visit, standing_under, visit_under, is_public_channel, sent}
 use Rattle.spec_translation.proofs.Conversions.{found_in-under}
 use Rattle.spec_translation.proofs.Goal.{all_filter_map}
 use Rattle.spec_readable_verdicts.proofs.Over.{bind-over}
-use Rattle.spec_certificate_text.specs.OfProtocol.{IsSymbolOf}
+use Rattle.spec_certificate_text.specs.OfProtocol.{IsPhase, IsSymbolOf}
 use Rattle.spec_readable_verdicts.proofs.Facts.{IsTermOver, AreTermsOver, IsFactOver, terms_over-under, facts_over-under}
 use Rattle.spec_readable_verdicts.proofs.Conversion.{converted_over, patterns_take, free_over, term_over}
 
@@ -90,7 +90,7 @@ module _ (P : Protocol) where
     pub messages : AreTermsOver P v.messages
     pub sessions : AreTermsOver P v.sessions
     pub count : length v.messages + length v.sessions ≡ above
-    pub phase : v.phase ≡ 0
+    pub phase : IsPhase P v.phase
 
   module _ (bound : List Name) (above : ℕ) (v : Visit) (is : IsVisitOver bound above v) where
     -- terms where they stand
@@ -110,6 +110,17 @@ module _ (P : Protocol) where
     pattern_over at pattern h =
         converted_over P (TakesPatterns (signature_of P)) (patterns_take P) (hole_term P v.scope at) pattern h.arities
         (all_weaker (IsHoleBelow (signature_of P) bound) (λ hole. IsTermOver P (hole_term P v.scope at hole)) (hole_over at) (leaves pattern) h.holes)
+
+    -- the terms of patterns in a row
+    row_terms : (at : Fresh) (patterns : List Pattern) → AllByRecursion (IsHoleBelow (signature_of P) bound) (row_leaves (trees patterns)) → EachSymbolInRow (TakesPatterns (signature_of P)) (trees patterns) → AreTermsOver P (map (pattern_term P v.scope at) patterns)
+    row_terms at [] holes arities = tt
+    row_terms at (p ∷ ps) holes arities =
+        let IsBelow = IsHoleBelow (signature_of P) bound in
+        let own = all_weaker IsBelow (λ hole. IsTermOver P (hole_term P v.scope at hole)) (hole_over at) (leaves p) (all_first IsBelow (leaves p) (row_leaves (trees ps)) holes) in
+        (converted_over P (TakesPatterns (signature_of P)) (patterns_take P) (hole_term P v.scope at) p arities.0 own, row_terms at ps (all_second IsBelow (leaves p) (row_leaves (trees ps)) holes) arities.1)
+
+    pub row_over : (at : Fresh) (patterns : List Pattern) → IsRowBelow (signature_of P) bound patterns → AreTermsOver P (map (pattern_term P v.scope at) patterns)
+    row_over at patterns h = row_terms at patterns h.holes h.arities
 
     -- under a substitution
     scope_over-under : (s : Subst) → ((x : ℕ) → IsTermOver P (s x)) → (scope : Scope) → IsScopeOver scope → IsScopeOver (map (standing_under s) scope)
@@ -152,8 +163,8 @@ module _ (P : Protocol) where
         ]
 
   -- what is sent
-  pub sent_over : (phase : ℕ) (channel message : Term) → phase ≡ 0 → IsTermOver P channel → IsTermOver P message → IsFactOver P (sent P phase channel message)
-  sent_over phase channel message zeroth first second = subst (λ n. IsFactOver P (sent P n channel message)) (sym zeroth) (go (is_public_channel P channel)) where
-    go : (k : Bool) → IsFactOver P (cond k (Att 0 message) (Mess 0 channel message))
-    go true = record { predicate = tt; terms = (second, tt) }
-    go false = record { predicate = tt; terms = (first, (second, tt)) }
+  pub sent_over : (phase : ℕ) (channel message : Term) → IsPhase P phase → IsTermOver P channel → IsTermOver P message → IsFactOver P (sent P phase channel message)
+  sent_over phase channel message is first second = go (is_public_channel P channel) where
+    go : (k : Bool) → IsFactOver P (cond k (Att phase message) (Mess phase channel message))
+    go true = record { predicate = is; terms = (second, tt) }
+    go false = record { predicate = is; terms = (first, (second, tt)) }

@@ -12,7 +12,7 @@ ghost use Rattle.spec_certificates.specs.Certificate.{Certificate};
 ghost use Rattle.spec_verdicts.specs.Verdict.{Proved, IsVerdict};
 ghost use Rattle.spec_certificate_text.specs.Readable.{IsReadableCertificate};
 
-use spec_protocol_scope::{plain_protocols, query_leaves, well_scoped, within_limits};
+use spec_protocol_scope::{query_leaves, well_scoped, within_limits};
 
 /// The certificate of a query that is proved, with a budget that may be asked for, may stand in a text: its terms are of the
 /// protocol and within the limit of levels, its facts stand where they may, its rows are numbers within the limit of digits,
@@ -22,7 +22,6 @@ pub fn proved_certificates_may_stand()
         Spells bytes P → Contains P.queries q → budget ≤ most_budget →
         IsVerdict P q budget (Proved cert) → IsReadableCertificate P cert }
 {
-    plain_protocols();
     query_leaves();
     well_scoped();
     within_limits();

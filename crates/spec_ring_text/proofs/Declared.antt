@@ -7,6 +7,7 @@ use Rattle.std.proofs.lemmas.List.{append-nil}
 use Rattle.spec_trees.specs.Tree.{Leaf}
 use Rattle.spec_calculus.specs.Bounds.{most_names}
 use Rattle.spec_calculus.specs.Syntax.{Free, Declared, Process, Secret}
+use Rattle.spec_calculus.specs.Points.{greatest_phase}
 use Rattle.spec_protocol_scope.specs.Names.{Texts, find_declared, meaning_of, no_names}
 use Rattle.spec_protocol_scope.specs.Declarations.{declare_free, declare_all}
 use Rattle.spec_protocol_scope.specs.Queries.{queries}
@@ -25,7 +26,7 @@ key_declared : (T : Texts) (frees : List Declared) (n i : ℕ) → T n ≡ key i
     → declare_free T (names_of frees) false n ≡ Ok (names_of (frees ++ free_name (key i) false ∷ []))
 key_declared T frees n i e none few =
     let nothing : meaning_of T (names_of frees) (T n) ≡ None = ap (meaning_of T (names_of frees)) e ∙ key_means_nothing T frees i none in
-    let short : nat_le (length frees + 1 + 1 + 0 + 0 + 1) most_names ≡ true = le-leb _ most_names (omega arith) in
+    let short : nat_le (length frees + 1 + 1 + 0 + 0 + 0 + 1) most_names ≡ true = le-leb _ most_names (omega arith) in
     rw (nothing, short, e, key_no_variable (decimal i)) refl
 
 -- the keys are declared one after another
@@ -54,9 +55,9 @@ ring_declared n cs small h =
     ∙ keys_declared (word_at (words (first_chunks (key_chunks 1 n cs)))) two_frees 27 1 n cs h (λ j low high. refl) (omega arith) (omega arith)
 
 -- what a ring asks
-keys_ask : (T : Texts) (n b m : ℕ) (main : Process) → T (further 3 (behind_keys b m)) ≡ codes "s" → queries (ring_scope T n) main 0 (key_sketches b m) ≡ Ok (Secret (Leaf (Free 2)) 0 ∷ [])
+keys_ask : (T : Texts) (n b m : ℕ) (main : Process) → T (further 3 (behind_keys b m)) ≡ codes "s" → queries (ring_scope T n) main 0 (key_sketches b m) ≡ Ok (Secret (Leaf (Free 2)) (greatest_phase main) ∷ [])
 keys_ask T n b zero main e = rw (rules.free_name (ring_scope T n) [] (further 3 b) 2 refl (secret_meant T n (further 3 b) e)) refl
 keys_ask T n b (suc m) main e = keys_ask T n (further 4 b) m main e
 
-pub ring_asks : (T : Texts) (n m : ℕ) (main : Process) → T (further 3 (behind_keys 27 m)) ≡ codes "s" → queries (ring_scope T n) main 0 (first_sketches (key_sketches 27 m)) ≡ Ok (Secret (Leaf (Free 2)) 0 ∷ [])
-ring_asks T n m main e = keys_ask T n 27 m main e
+pub ring_asks : (T : Texts) (n m : ℕ) (main : Process) → T (further 3 (behind_keys 27 m)) ≡ codes "s" → greatest_phase main ≡ 0 → queries (ring_scope T n) main 0 (first_sketches (key_sketches 27 m)) ≡ Ok (Secret (Leaf (Free 2)) 0 ∷ [])
+ring_asks T n m main e none = keys_ask T n 27 m main e ∙ ap (λ (phase : ℕ). Ok (Secret (Leaf (Free 2)) phase ∷ [])) none

@@ -101,7 +101,7 @@ middle_follows n b m h =
     let h2 : 2 ≤ most_levels = omega arith in
     let h3 : 3 ≤ most_levels = omega arith in
     let h4 : 4 ≤ most_levels = omega arith in
-    ((refl, refl), h0) ⨾ ((refl, refl), h0) ⨾ (refl, h0) ⨾ ((refl, refl), h1) ⨾ refl ⨾ (refl, h0) ⨾ (refl, h0) ⨾
+    ((refl, refl), h0) ⨾ ((refl, refl), h0) ⨾ (refl, h0) ⨾ ((refl, refl), h1) ⨾ refl ⨾ (refl, h0) ⨾ refl ⨾ (refl, h0) ⨾
     ((refl, refl), h0) ⨾ ((refl, refl), h2) ⨾ (refl, h2) ⨾ ((refl, refl), h3) ⨾ refl ⨾ (refl, h2) ⨾ ((refl, refl), h3) ⨾
     (refl, h3) ⨾ ((refl, refl), h4) ⨾ refl ⨾ (refl, h3) ⨾ ((refl, refl), h4) ⨾ refl ⨾ refl ⨾ (refl, h3) ⨾ (refl, h2) ⨾
     refl ⨾ passes_follow n (further 18 b) 1 1 m (omega arith)

@@ -13,7 +13,7 @@ use Rattle.spec_ring_text.specs.Meaning.{free_name, keys, encryption, decryption
 
 -- the names of a ring that has declared these free names
 abbrev pub names_of : List Declared → Names
-names_of frees = record { frees = frees; constructors = encryption ∷ []; destructors = decryption ∷ []; events = []; macros = [] }
+names_of frees = record { frees = frees; constructors = encryption ∷ []; destructors = decryption ∷ []; events = []; tables = []; macros = [] }
 
 -- the free names before the keys, and all of them
 abbrev pub two_frees : List Declared

@@ -17,7 +17,7 @@ use Rattle.spec_ring_text.specs.Meaning.{encrypted, decrypted}
 use Rattle.spec_ring_text.proofs.Sketch.{bare, applied}
 
 -- there is room for a point
-pub room : (bound : List Bound) (above point variable : ℕ) → above ≤ most_points_above → point ≤ most_points → is_room (record { bound = bound; above = above; used = None }) (record { point = point; variable = variable }) ≡ true
+pub room : (bound : List Bound) (above point variable : ℕ) → above ≤ most_points_above → point ≤ most_points → is_room (record { bound = bound; above = above; used = None; phase = 0 }) (record { point = point; variable = variable }) ≡ true
 room bound above point variable few_above few = rw (le-leb point most_points few, le-leb above most_points_above few_above) refl
 
 module _ (s : Scope) (bound : List Bound) where
@@ -53,7 +53,7 @@ module _ (s : Scope) (bound : List Bound) where
   binding_name n v = rw (add-zero v) refl
 
 abbrev pub at_site : List Bound → ℕ → Site
-at_site bound above = record { bound = bound; above = above; used = None }
+at_site bound above = record { bound = bound; above = above; used = None; phase = 0 }
 
 abbrev pub at_numbers : ℕ → ℕ → Numbers
 at_numbers point variable = record { point = point; variable = variable }

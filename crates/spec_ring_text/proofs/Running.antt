@@ -5,6 +5,7 @@ use Rattle.std.proofs.lemmas.Bool.Decides.{eqb_tells}
 use Rattle.spec_trees.specs.Tree.{Leaf}
 use Rattle.spec_calculus.specs.Bounds.{most_points, most_points_above}
 use Rattle.spec_calculus.specs.Syntax as calculus
+use Rattle.spec_calculus.specs.Plain.{IsPlain}
 use Rattle.spec_protocol_scope.specs.Names.{Texts, Scope, Bound, bound_as}
 use Rattle.spec_protocol_grammar.specs.Sketch.{UnitSketch, Input, NamedPattern, no_patterns, given}
 use Rattle.spec_protocol_scope.specs.Processes.{Numbers, no_macros, process, unit, main_process}
@@ -123,3 +124,11 @@ main_is T m b small h =
     let others = passes_are T n (omega arith) (further 18 b) 1 m 1 4 1 (omega arith) (omega arith) h.1.1.1.1.1.1.1.1.1.1.1.1.1.1.1.1.1.1 (omega arith) (omega arith) in
     let last : m ≡ suc m - 1 = omega arith in
     rw (first, others.1) (ap (λ (k : ℕ). Ok (calculus.Parallel (calculus.Output (Leaf (calculus.Free 1)) (encrypted (Leaf (calculus.Free 2)) (key_name 1)) calculus.Nil) (passes n 1 1 k))) last)
+
+-- no process of a ring waits for a phase, and none uses a table
+passes_plain : (n i v m : ℕ) → IsPlain (passes n i v m)
+passes_plain n i v zero = (tt, tt)
+passes_plain n i v (suc m) = ((tt, tt), passes_plain n (i + 1) (v + 2) m)
+
+pub ring_plain : (n : ℕ) → IsPlain (ring_protocol n).main
+ring_plain n = (tt, passes_plain n 1 1 (n - 1))

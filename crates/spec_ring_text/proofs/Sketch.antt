@@ -1,5 +1,5 @@
 -- The sketch of the text of a ring.
-use Rattle.std.specs.Prelude.{ℕ, zero, suc, ◌+◌, true, false, List, [], ◌∷◌}
+use Rattle.std.specs.Prelude.{ℕ, zero, suc, ◌+◌, true, false, List, [], ◌∷◌, None}
 use Rattle.spec_protocol_grammar.specs.Sketch.{TermSketch, Named, none, more, NamedPattern, no_patterns, ProcessSketch, Process, alone, beside, UnitSketch, Replicated, Output, Input, Let, omitted, given, Attacker, RuleSketch, DeclarationSketch, Free, Fun, Reduc, Query, FileSketch}
 
 -- so many tokens further, one after another
@@ -27,7 +27,7 @@ key_sketch b = Free b false (further 2 b) []
 
 -- so many keys, and what is asked behind them
 abbrev pub key_sketches : ℕ → ℕ → List DeclarationSketch
-key_sketches b zero = Query b (Attacker (b + 1) (bare (further 3 b))) ∷ []
+key_sketches b zero = Query b (Attacker (b + 1) (bare (further 3 b)) None) ∷ []
 key_sketches b (suc behind) = key_sketch b ∷ key_sketches (further 4 b) behind
 
 -- the token behind so many keys

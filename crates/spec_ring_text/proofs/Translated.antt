@@ -17,7 +17,6 @@ use Rattle.spec_translation.specs.Conversion.{StandsFor, leaf_term, free_term, F
 use Rattle.spec_translation.specs.Attacker.{name_known, fresh_known, constructor_applied, rule_applied, message_heard, message_sent}
 use Rattle.spec_translation.specs.Visit.{Visit, first_visit, is_large_term, evaluates_large}
 use Rattle.spec_translation.specs.Otherwise.{otherwise_visit}
-use Rattle.spec_calculus.specs.Plain.{IsPlain}
 use Rattle.spec_translation.specs.Choice.{Choice, choice_under, IsUnified, ruled_choice, GoesOn, ruled_terms, ChoiceGoesOn}
 use Rattle.spec_translation.specs.Course.{Outcome, Done, Course, Finished, Counted, Unless, Adds}
 use Rattle.spec_translation.specs.Visited.{Visited, Chosen}
@@ -26,6 +25,7 @@ use Rattle.spec_translation.proofs.Plain.{attacker_of_one_phase}
 use Rattle.spec_ring_text.specs.Text.{successor}
 use Rattle.spec_ring_text.specs.Meaning as meaning
 use Rattle.spec_ring_text.specs.Meaning.{keys, key_name, encrypted, encryption, decryption, pass, passes, ring_protocol}
+use Rattle.spec_ring_text.proofs.Running.{ring_plain}
 use Rattle.spec_ring_text.proofs.Sizes.{last_successor, next_successor}
 
 -- the keys are not public
@@ -40,14 +40,9 @@ attacker_with n known =
     ∷ (known ++ (fresh_known ∷ (filter_map (constructor_applied 0) (enumerate_from 1 (encryption ∷ []))
     ++ (flat_map (λ destructor. map (rule_applied (ring_protocol n) 0) destructor.rules) (decryption ∷ []) ++ (message_heard 0 ∷ message_sent 0 ∷ [])))))
 
--- no process of it waits for a phase, and none uses a table
-passes_plain : (n i v m : ℕ) → IsPlain (passes n i v m)
-passes_plain n i v zero = (tt, tt)
-passes_plain n i v (suc m) = ((tt, tt), passes_plain n (i + 1) (v + 2) m)
-
 attacker_count : (n : ℕ) → length (attacker_clauses (ring_protocol n)) ≡ 6
 attacker_count n =
-    ap (λ (raws : List (Clause Term)). length (flat_map norms raws)) (attacker_of_one_phase (ring_protocol n) (tt, passes_plain n 1 1 (n - 1)))
+    ap (λ (raws : List (Clause Term)). length (flat_map norms raws)) (attacker_of_one_phase (ring_protocol n) (ring_plain n))
     ∙ ap (λ (known : List (Clause Term)). length (flat_map norms (attacker_with n known))) (no_key_known 3 1 n)
 
 -- what variables stand for

@@ -7,6 +7,7 @@ use Rattle.spec_protocol_grammar.specs.Spelling.{IsSketch}
 use Rattle.spec_protocol_scope.specs.Names.{Texts}
 use Rattle.spec_protocol_scope.specs.Scope.{scope}
 use Rattle.spec_protocol_scope.specs.Spells.{IsProtocolOf, Spells}
+use Rattle.spec_calculus.proofs.Plain.{plain_greatest}
 use Rattle.spec_ring_text.specs.Text.{ring_text}
 use Rattle.spec_ring_text.specs.Meaning.{ring_protocol}
 use Rattle.spec_ring_text.proofs.Chunks.{flat, words, word_at, tokens, lexed, source_is, texts_are}
@@ -15,7 +16,7 @@ use Rattle.spec_ring_text.proofs.Sketch.{behind_keys, ring_sketch}
 use Rattle.spec_ring_text.proofs.Follow.{ring_is_sketch}
 use Rattle.spec_ring_text.proofs.Spelled.{Reads, reads, reads_behind}
 use Rattle.spec_ring_text.proofs.Declared.{ring_declared, ring_asks}
-use Rattle.spec_ring_text.proofs.Running.{main_is}
+use Rattle.spec_ring_text.proofs.Running.{main_is, ring_plain}
 use Rattle.spec_ring_text.proofs.Sizes.{ring_short}
 
 -- the texts of the tokens of a ring
@@ -36,7 +37,7 @@ ring_scoped m small =
     rw (
       ring_declared (suc m) (middle_chunks (pass_chunks (suc m) 1 (suc m))) (omega arith) (from_keys (suc m)),
       main_is (ring_texts (suc m)) m (behind_keys 27 (suc m)) small query,
-      ring_asks (ring_texts (suc m)) (suc m) (suc m) (ring_protocol (suc m)).main query.1.1.1.0,
+      ring_asks (ring_texts (suc m)) (suc m) (suc m) (ring_protocol (suc m)).main query.1.1.1.0 (plain_greatest (ring_protocol (suc m)).main (ring_plain (suc m))),
     ) refl
 
 -- the protocol of the bytes of its chunks

@@ -43,7 +43,7 @@ new_variables v pattern =
     (at, record { is_new = below; from_first = from_zero (bound_numbers pattern) })
 
 -- The equations of a choice are one list of equations, so something comes of their unification.
-choice_goes : (c : Choice) → (out : Option Visit) × GoesOn c out
+pub choice_goes : (c : Choice) → (out : Option Visit) × GoesOn c out
 choice_goes c = go (unification_decided (node Attacker (c.value ∷ c.arguments)) (node Attacker (c.target ∷ c.sides))) where
   to_one : (s : Subst) → IsUnified (choice_under s c) → Unifies s (node Attacker (c.value ∷ c.arguments)) (node Attacker (c.target ∷ c.sides))
   to_one s h =

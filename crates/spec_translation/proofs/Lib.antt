@@ -12,6 +12,7 @@ pub mod Placement
 pub mod Parts
 pub mod Goal
 pub mod Plain
+pub mod Unconstrained
 pub mod Sizes
 pub mod Few
 pub mod Examples

@@ -76,7 +76,7 @@ sent_placed P phase channel message = go (is_public_channel P channel) where
 
 -- what holds of a choice's visit, and under substitutions, holds of each visit that goes on
 module _ (K : Visit → Type 0) (kept : (s : Subst) (v : Visit) → K v → K (visit_under s v)) where
-  choice_kept : (c : Choice) (out : Option Visit) → K c.visit → GoesOn c out → IfSome out K
+  pub choice_kept : (c : Choice) (out : Option Visit) → K c.visit → GoesOn c out → IfSome out K
   choice_kept c None k goes = tt
   choice_kept c (Some w) k goes = subst K (sym goes.2) (kept goes.0 c.visit k)
 

@@ -2,15 +2,15 @@
 use Rattle.std.proofs.Common.{◌≡◌, ℕ, List, [], ◌∷◌, ◌++◌, drop, refl, ap, ◌∙◌, append_assoc}
 use Rattle.std.specs.Prelude.{codes}
 use Rattle.std.specs.Fmt.{decimal}
-use Rattle.spec_calculus.specs.Syntax.{Protocol}
+use Rattle.spec_calculus.specs.Syntax.{Declared, Protocol}
 use Rattle.spec_clauses.specs.Fact.{Fact, Att, Mess, Tab, Ev, Mev, Bad, Clause}
 use Rattle.spec_certificates.specs.Certificate.{Certificate}
 use Rattle.spec_certificate_text.specs.Loose.{Head, Applied, Tupled, Made, Attackers}
-use Rattle.spec_certificate_text.specs.Words.{event_word}
-use Rattle.spec_certificate_text.specs.Text.{numbers_text, row_lines}
-use Rattle.spec_certificate_text.proofs.Followed.{certificate_followed}
+use Rattle.spec_certificate_text.specs.Words.{declared_word}
+use Rattle.spec_certificate_text.specs.Text.{phase_text, numbers_text, row_lines}
+use Rattle.spec_certificate_text.proofs.Followed.{phase_followed, certificate_followed}
 use Rattle.spec_node_tables.specs.Nodes.{TableNode, NodeCertificate, with_nodes}
-use Rattle.spec_node_tables.specs.Text.{later_terms, terms_text, event_over, fact_over, later_hypotheses, hypotheses_over, clause_over, clause_lines_over, number_text, head_text, node_head, node_numbers, node_text, node_lines, numbered_text, text_with_nodes}
+use Rattle.spec_node_tables.specs.Text.{later_terms, terms_text, call_over, event_over, fact_over, later_hypotheses, hypotheses_over, clause_over, clause_lines_over, number_text, head_text, node_head, node_numbers, node_text, node_lines, numbered_text, text_with_nodes}
 
 -- Nodes.
 
@@ -45,14 +45,19 @@ module _ (P : Protocol) where
   terms_followed [] k rest = refl
   terms_followed (n ∷ ns) k rest = number_followed n (later_terms number_text P ns k) rest ∙ ap (number_text n) (later_followed ns k rest)
 
+  call_followed : (ds : List Declared) (e : ℕ) (ns : List ℕ) (k rest : List ℕ) → call_over number_text P ds e ns k ++ rest ≡ call_over number_text P ds e ns (k ++ rest)
+  call_followed ds e [] k rest = append_assoc (declared_word ds e) k rest
+  call_followed ds e (n ∷ ns) k rest = append_assoc (declared_word ds e) (40 ∷ terms_text number_text P (n ∷ ns) (41 ∷ k)) rest ∙ ap (λ l. declared_word ds e ++ (40 ∷ l)) (terms_followed (n ∷ ns) (41 ∷ k) rest)
+
   event_followed : (e : ℕ) (ns : List ℕ) (k rest : List ℕ) → event_over number_text P e ns k ++ rest ≡ event_over number_text P e ns (k ++ rest)
-  event_followed e [] k rest = append_assoc (event_word P e) k rest
-  event_followed e (n ∷ ns) k rest = append_assoc (event_word P e) (40 ∷ terms_text number_text P (n ∷ ns) (41 ∷ k)) rest ∙ ap (λ l. event_word P e ++ (40 ∷ l)) (terms_followed (n ∷ ns) (41 ∷ k) rest)
+  event_followed e ns k rest = call_followed P.events e ns k rest
 
   fact_followed : (f : Fact ℕ) (k rest : List ℕ) → fact_over number_text P f k ++ rest ≡ fact_over number_text P f (k ++ rest)
-  fact_followed (Att phase t) k rest = ap (λ l. codes "att(" ++ l) (terms_followed (t ∷ []) (41 ∷ k) rest)
-  fact_followed (Mess phase t u) k rest = ap (λ l. codes "mess(" ++ l) (terms_followed (t ∷ u ∷ []) (41 ∷ k) rest)
-  fact_followed (Tab n ts) k rest = ap (λ l. codes "tab(" ++ l) (terms_followed ts (41 ∷ k) rest)
+  fact_followed (Att phase t) k rest =
+      ap (λ l. codes "att" ++ l) (phase_followed phase (40 ∷ terms_text number_text P (t ∷ []) (41 ∷ k)) rest ∙ ap (λ l. phase_text phase (40 ∷ l)) (terms_followed (t ∷ []) (41 ∷ k) rest))
+  fact_followed (Mess phase t u) k rest =
+      ap (λ l. codes "mess" ++ l) (phase_followed phase (40 ∷ terms_text number_text P (t ∷ u ∷ []) (41 ∷ k)) rest ∙ ap (λ l. phase_text phase (40 ∷ l)) (terms_followed (t ∷ u ∷ []) (41 ∷ k) rest))
+  fact_followed (Tab n ts) k rest = ap (λ l. codes "tab(" ++ l) (call_followed P.tables n ts (41 ∷ k) rest)
   fact_followed (Ev e ts) k rest = ap (λ l. codes "ev(" ++ l) (event_followed e ts (41 ∷ k) rest)
   fact_followed (Mev e ts) k rest = ap (λ l. codes "mev(" ++ l) (event_followed e ts (41 ∷ k) rest)
   fact_followed (Bad ts) k rest = ap (λ l. codes "bad(" ++ l) (terms_followed ts (41 ∷ k) rest)

@@ -1,5 +1,5 @@
 -- A certificate that may stand in a report may be written by a table, if it is not too large for one.
-use Rattle.std.proofs.Common.{List, [], ◌∷◌, ℕ, zero, suc}
+use Rattle.std.proofs.Common.{List, [], ◌∷◌, ℕ}
 use Rattle.std.specs.List.{AllByRecursion}
 use Rattle.spec_trees.specs.Tree.{trees}
 use Rattle.spec_calculus.specs.Syntax.{Protocol}
@@ -17,11 +17,9 @@ terms_are P [] are = tt
 terms_are P (t ∷ ts) are = (are.0.0, terms_are P ts are.1)
 
 hypothesis_is : (P : Protocol) (f : Fact Term) → IsHypothesisOf P f → IsFactOf P f
-hypothesis_is P (Att zero t) is = is.0
-hypothesis_is P (Att (suc k) t) is = absurd is
-hypothesis_is P (Mess zero t u) is = (is.0.0, is.1.0)
-hypothesis_is P (Mess (suc k) t u) is = absurd is
-hypothesis_is P (Tab n ts) is = absurd is
+hypothesis_is P (Att k t) is = (is.0, is.1.0)
+hypothesis_is P (Mess k t u) is = (is.0, is.1.0, is.2.0)
+hypothesis_is P (Tab n ts) is = (is.0, terms_are P ts is.1)
 hypothesis_is P (Ev e ts) is = (is.0, terms_are P ts is.1)
 hypothesis_is P (Mev e ts) is = (is.0, terms_are P ts is.1)
 hypothesis_is P (Bad ts) is = absurd is
@@ -35,11 +33,9 @@ hypothesis_may P (Mev e ts) is = tt
 hypothesis_may P (Bad ts) is = absurd is
 
 conclusion_is : (P : Protocol) (f : Fact Term) → IsConclusionOf P f → IsFactOf P f
-conclusion_is P (Att zero t) is = is.0
-conclusion_is P (Att (suc k) t) is = absurd is
-conclusion_is P (Mess zero t u) is = (is.0.0, is.1.0)
-conclusion_is P (Mess (suc k) t u) is = absurd is
-conclusion_is P (Tab n ts) is = absurd is
+conclusion_is P (Att k t) is = (is.0, is.1.0)
+conclusion_is P (Mess k t u) is = (is.0, is.1.0, is.2.0)
+conclusion_is P (Tab n ts) is = (is.0, terms_are P ts is.1)
 conclusion_is P (Ev e ts) is = (is.0, terms_are P ts is.1)
 conclusion_is P (Mev e ts) is = absurd is
 conclusion_is P (Bad ts) is = terms_are P ts is

@@ -3,17 +3,18 @@
 ghost use Rattle.std.specs.Prelude.{◌≡◌, ◌<◌, ◌≤◌, true};
 ghost use Rattle.pi_tree.specs.Protocols.{protocol_of};
 ghost use Rattle.pi_tree.specs.Accessors.{IsThere};
-ghost use Rattle.pi_tree.specs.declared.accessors.Kind.TheVariants.{Free, Ctor, Dtor, Event, Point};
+ghost use Rattle.pi_tree.specs.declared.accessors.Kind.TheVariants.{Free, Ctor, Dtor, Event, Table, Point};
 
 use pi_tree::{Kind, Process, Protocol, Query};
 use std::alloc::{AllocError, Global};
 
 /// The kinds of what has a number, in the order in which they are told.
-const KINDS: [Kind; 6] = [
+const KINDS: [Kind; 7] = [
     Kind::Free,
     Kind::Ctor,
     Kind::Dtor,
     Kind::Event,
+    Kind::Table,
     Kind::Query,
     Kind::Point,
 ];
@@ -69,11 +70,22 @@ fn event(alloc: Global, protocol: &Protocol, number: u32) -> Result<String, Allo
     format!(in alloc; "event {word}/{arity}; ")
 }
 
-/// What a query asks for.
+/// A table: its word and arity.
+fn table(alloc: Global, protocol: &Protocol, number: u32) -> Result<String, AllocError>
+    requires { IsThere (protocol_of protocol.now) Table number }
+{
+    let word = spelled(protocol.word(Kind::Table, number));
+    let arity = protocol.arity(Kind::Table, number);
+    format!(in alloc; "table {word}/{arity}; ")
+}
+
+/// What a query asks for; of one of secrecy the phase where it isn't 0.
 fn query_text(alloc: Global, query: &Query) -> Result<String, AllocError> {
     match query {
-        Query::Secret(_) => String::from_str(alloc, "secret; "),
-        Query::SecretNew(point) => format!(in alloc; "secret {point}; "),
+        Query::Secret(_, 0) => String::from_str(alloc, "secret; "),
+        Query::Secret(_, phase) => format!(in alloc; "secret phase {phase}; "),
+        Query::SecretNew(point, 0) => format!(in alloc; "secret {point}; "),
+        Query::SecretNew(point, phase) => format!(in alloc; "secret {point} phase {phase}; "),
         Query::Corr { .. } => String::from_str(alloc, "correspondence; "),
     }
 }
@@ -89,6 +101,9 @@ fn form(process: &Process) -> &'static str {
         Process::New(..) => "new ",
         Process::Let(..) => "let",
         Process::Event(..) => "event",
+        Process::Phase(..) => "phase",
+        Process::Insert(..) => "insert",
+        Process::Get(..) => "get",
     }
 }
 
@@ -122,6 +137,7 @@ fn told(alloc: Global, protocol: &Protocol, kind: Kind, number: u32) -> Result<S
         Kind::Ctor => constructor(alloc, protocol, number),
         Kind::Dtor => destructor(alloc, protocol, number),
         Kind::Event => event(alloc, protocol, number),
+        Kind::Table => table(alloc, protocol, number),
         Kind::Query => query_text(alloc, protocol.query(number)),
         Kind::Point => point(alloc, protocol, number),
     }

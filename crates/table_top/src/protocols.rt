@@ -74,7 +74,7 @@ fn applied(alloc: Global) -> Result<Term, AllocError> {
 
 /// Whether the message has a private free name that stands nowhere in the process.
 fn asks_for_absent(protocol: &Protocol, message: Term) -> bool {
-    is_absent(protocol, &Query::Secret(message))
+    is_absent(protocol, &Query::Secret(message, 0))
 }
 
 /// Whether that is so of the second free name, of the first constructor on the first two, and of each other leaf: a free name 0,

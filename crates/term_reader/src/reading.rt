@@ -93,5 +93,11 @@ pub fn read_term(
         read_term (protocol_of protocol.now) (drop at bytes.now) at) }
     ensures within { IfOk result (λ read. EndsWithin (length bytes.now) read) }
 {
-    term_at(&Names { alloc, protocol }, bytes, at)
+    let greatest = protocol.greatest_phase();
+    let names = Names {
+        alloc,
+        protocol,
+        greatest,
+    };
+    term_at(&names, bytes, at)
 }

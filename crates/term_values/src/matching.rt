@@ -3,6 +3,7 @@
 ghost use Rattle.std.specs.Prelude.{◌≡◌, ◌++◌, map, cond, Some, None, option_map, IfOk};
 ghost use Rattle.spec_trees.specs.Tree.{trees};
 ghost use Rattle.spec_calculus.specs.Matching.{matched, matched_row};
+ghost use Rattle.spec_calculus.specs.Tables.{row_pattern, row_value};
 ghost use Rattle.pi_tree.specs.Patterns.{pattern_of};
 ghost use Rattle.pi_tree.specs.Values.{value_of};
 
@@ -87,6 +88,25 @@ pub fn matched(
 {
     let mut bindings = Environment::new(alloc);
     if matches(pattern, alloc, environment, value, &mut bindings)? {
+        Ok(Some(bindings))
+    } else {
+        Ok(None)
+    }
+}
+
+/// What the patterns bind where the values match them, each the one beside it.
+#[tactic(auto, using(crate::proofs::Rows::of_rows))]
+pub fn matched_row(
+    alloc: Global,
+    environment: &Environment,
+    patterns: &Pats,
+    values: &[Value],
+) -> Result<Option<Environment>, AllocError>
+    ensures { IfOk result (λ o. o ≡ matched environment.now (row_pattern patterns.now)
+        (row_value (map value_of values.now))) }
+{
+    let mut bindings = Environment::new(alloc);
+    if all_match(patterns, alloc, environment, values, &mut bindings)? {
         Ok(Some(bindings))
     } else {
         Ok(None)

@@ -202,6 +202,12 @@ pub fn some_large_at(process: &Process, environment: &Environment) -> bool
             some_large_compared(pattern, environment) || some_large_leaf(expression, environment)
         }
         Process::Event(performed, _) => some_large_term(&performed.args, environment),
-        Process::Nil | Process::Par(..) | Process::Copies(_) | Process::New(..) => false,
+        Process::Insert(_, arguments, _) => some_large_term(arguments, environment),
+        Process::Get(_, patterns, _, _, _) => some_large_compared_in(patterns, environment),
+        Process::Nil
+        | Process::Par(..)
+        | Process::Copies(_)
+        | Process::New(..)
+        | Process::Phase(..) => false,
     }
 }

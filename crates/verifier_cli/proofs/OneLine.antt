@@ -14,9 +14,9 @@ use Rattle.spec_protocol_scope.specs.Words.{IsIdentifier, IsSymbolWord, HasWords
 use Rattle.spec_terms.specs.Term.{Sym, Ctor, Data, Tuple, Free, Point, Attacker, Term}
 use Rattle.spec_clauses.specs.Fact.{Fact, Att, Mess, Tab, Ev, Mev, Bad, Clause}
 use Rattle.spec_certificate_text.specs.Loose.{Head, Applied, Tupled, Made, Attackers, Loose, LooseRow, opening, closing, onto, row, behind}
-use Rattle.spec_certificate_text.specs.Words.{declared_word, word_of_process, symbol_word, event_word}
-use Rattle.spec_certificate_text.specs.Written.{applied, headed, written, written_row, written_event, written_fact}
-use Rattle.spec_certificate_text.specs.Text.{fact_text, later_hypotheses, hypotheses_text, clause_text}
+use Rattle.spec_certificate_text.specs.Words.{declared_word, word_of_process, symbol_word, event_word, table_word}
+use Rattle.spec_certificate_text.specs.Written.{applied, headed, written, written_row, written_event, written_entry, LooseFact, written_fact}
+use Rattle.spec_certificate_text.specs.Text.{phase_text, fact_text, later_hypotheses, hypotheses_text, clause_text}
 use Rattle.spec_certificate_text.proofs.Runs.{both_left, both_right}
 use Rattle.spec_certificate_text.proofs.Parts.{equal_byte}
 use Rattle.spec_certificate_text.specs.ReportText.{in_line}
@@ -109,6 +109,9 @@ symbol_in_line P words Attacker = refl
 event_in_line : (P : Protocol) → HasWords P → (event : ℕ) → IsOneLine (event_word P event)
 event_in_line P words event = declared_in_line (λ d. IsIdentifier d.word) (λ d is. identifier_in_line d.word is) P.events event words.events
 
+table_in_line : (P : Protocol) → HasWords P → (table : ℕ) → IsOneLine (table_word P table)
+table_in_line P words table = declared_in_line (λ d. IsIdentifier d.word) (λ d is. identifier_in_line d.word is) P.tables table words.tables
+
 -- Loose trees whose words and digits stand on one line.
 
 abbrev HeadInLine : Head → Type 0
@@ -177,16 +180,32 @@ mutual
 event_written_in_line : (P : Protocol) → HasWords P → (event : ℕ) (ts : List Term) → LooseInLine (written_event P event ts)
 event_written_in_line P words event ts = applied_in_line (event_word P event) (written_row P (trees ts)) (event_in_line P words event) (written_row_in_line P words (trees ts))
 
-fact_written_in_line : (P : Protocol) → HasWords P → (f : Fact Term) → LooseInLine (written_fact P f)
-fact_written_in_line P words (Att phase t) = (refl, (written_in_line P words t, tt))
-fact_written_in_line P words (Mess phase t u) = (refl, (written_in_line P words t, (written_in_line P words u, tt)))
-fact_written_in_line P words (Tab table ts) = (refl, written_row_in_line P words (trees ts))
-fact_written_in_line P words (Ev event ts) = (refl, (event_written_in_line P words event ts, tt))
-fact_written_in_line P words (Mev event ts) = (refl, (event_written_in_line P words event ts, tt))
-fact_written_in_line P words (Bad ts) = (refl, written_row_in_line P words (trees ts))
+entry_written_in_line : (P : Protocol) → HasWords P → (table : ℕ) (ts : List Term) → LooseInLine (written_entry P table ts)
+entry_written_in_line P words table ts = applied_in_line (table_word P table) (written_row P (trees ts)) (table_in_line P words table) (written_row_in_line P words (trees ts))
+
+-- a predicate and its arguments are
+record FactInLine (f : LooseFact) : Type 0 where
+  predicate : IsOneLine f.predicate
+  arguments : RowInLine f.arguments
+
+fact_written_in_line : (P : Protocol) → HasWords P → (f : Fact Term) → FactInLine (written_fact P f)
+fact_written_in_line P words (Att phase t) = record { predicate = refl; arguments = (written_in_line P words t, tt) }
+fact_written_in_line P words (Mess phase t u) = record { predicate = refl; arguments = (written_in_line P words t, (written_in_line P words u, tt)) }
+fact_written_in_line P words (Tab table ts) = record { predicate = refl; arguments = (entry_written_in_line P words table ts, tt) }
+fact_written_in_line P words (Ev event ts) = record { predicate = refl; arguments = (event_written_in_line P words event ts, tt) }
+fact_written_in_line P words (Mev event ts) = record { predicate = refl; arguments = (event_written_in_line P words event ts, tt) }
+fact_written_in_line P words (Bad ts) = record { predicate = refl; arguments = written_row_in_line P words (trees ts) }
+
+phase_in_line : (k : ℕ) (rest : List ℕ) → IsOneLine rest → IsOneLine (phase_text k rest)
+phase_in_line zero rest is = is
+phase_in_line (suc k) rest is = joined (decimal (suc k)) rest (decimal_in_line (suc k)) is
 
 fact_in_line : (P : Protocol) → HasWords P → (f : Fact Term) (rest : List ℕ) → IsOneLine rest → IsOneLine (fact_text P f rest)
-fact_in_line P words f rest k = onto_in_line (written_fact P f) rest (fact_written_in_line P words f) k
+fact_in_line P words f rest k =
+    let loose = written_fact P f in
+    let is = fact_written_in_line P words f in
+    joined loose.predicate (phase_text loose.phase (40 ∷ row loose.arguments (41 ∷ rest))) is.predicate
+    (phase_in_line loose.phase (40 ∷ row loose.arguments (41 ∷ rest)) (row_in_line loose.arguments (41 ∷ rest) is.arguments k))
 
 later_in_line : (P : Protocol) → HasWords P → (hs : List (Fact Term)) (rest : List ℕ) → IsOneLine rest → IsOneLine (later_hypotheses P hs rest)
 later_in_line P words [] rest k = k

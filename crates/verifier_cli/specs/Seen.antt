@@ -32,6 +32,7 @@ refusal_by code.LooseVariable = Scoped scope.LooseVariable
 refusal_by code.TooMany = Scoped scope.TooMany
 refusal_by code.AmbiguousNew = Scoped scope.AmbiguousNew
 refusal_by code.LongFile = spells.LongFile
+refusal_by code.PhaseOrder = Scoped scope.PhaseOrder
 
 -- why a report is refused, by its code
 abbrev pub report_refusal_by : ReportCode → own.ReportRefusal

@@ -94,6 +94,7 @@ code_text (Scoped scope.LooseVariable) = codes "10 LooseVariable"
 code_text (Scoped scope.TooMany) = codes "11 TooMany"
 code_text (Scoped scope.AmbiguousNew) = codes "12 AmbiguousNew"
 code_text spells.LongFile = codes "13 LongFile"
+code_text (Scoped scope.PhaseOrder) = codes "14 PhaseOrder"
 
 -- the code of a refused report, and its name
 abbrev pub report_code_text : ReportRefusal → List ℕ

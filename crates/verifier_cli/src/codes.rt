@@ -28,6 +28,7 @@ impl ProtocolCode {
             ProtocolCode::TooMany => "11 TooMany",
             ProtocolCode::AmbiguousNew => "12 AmbiguousNew",
             ProtocolCode::LongFile => "13 LongFile",
+            ProtocolCode::PhaseOrder => "14 PhaseOrder",
         }
     }
 }
@@ -119,6 +120,7 @@ impl StepCode {
             StepError::NotFailing => "7 NotFailing",
             StepError::NotPublic => "8 NotPublic",
             StepError::Large => "9 Large",
+            StepError::NoEntry => "10 NoEntry",
         }
     }
 }

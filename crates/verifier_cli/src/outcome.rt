@@ -36,6 +36,8 @@ pub enum ProtocolCode {
     AmbiguousNew,
     /// The file has more bytes than a protocol's text may have. This is looked at before all else; its place is 1:1.
     LongFile,
+    /// The phase is not later than the one in force, or in a query past the greatest.
+    PhaseOrder,
 }
 
 /// Why a report is refused. The printed code of each is its number here, from 1. The place is that of the line in which it

@@ -71,6 +71,7 @@ impl From<ScopeError> for Stop {
             ScopeError::LooseVariable(place) => Stop::Refused(ProtocolCode::LooseVariable, place),
             ScopeError::TooMany(place) => Stop::Refused(ProtocolCode::TooMany, place),
             ScopeError::AmbiguousNew(place) => Stop::Refused(ProtocolCode::AmbiguousNew, place),
+            ScopeError::PhaseOrder(place) => Stop::Refused(ProtocolCode::PhaseOrder, place),
             ScopeError::LongFile => Stop::Refused(ProtocolCode::LongFile, 0),
             ScopeError::Memory(_) => Stop::Memory,
         }

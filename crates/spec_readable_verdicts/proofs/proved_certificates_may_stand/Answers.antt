@@ -1,4 +1,3 @@
-use Rattle.spec_calculus.specs.Plain.{IsPlainQuery}
 use Rattle.spec_calculus.proofs.Items.{each-contains}
 use Rattle.spec_well_formed.specs.Limits.{IsSmallQuery}
 use Rattle.spec_well_formed.specs.Queries.{HasQueryLeaves}
@@ -17,6 +16,4 @@ returns c = λ bytes P q budget cert h asked most is.
       small = each-contains IsSmallQuery P.queries q limits.asked asked;
       over = each-contains (IsQueryOver (signature_of P)) P.queries q scoped.queries asked;
       leaves = each-contains (HasQueryLeaves P) P.queries q (c.query_leaves.ensures bytes P h) asked;
-      plain = c.plain_protocols.ensures.process bytes P h;
-      plain_query = each-contains IsPlainQuery P.queries q (c.plain_protocols.ensures.queries bytes P h) asked;
     }) budget most cert is

@@ -10,8 +10,8 @@ returns-clause-adds g c =
     let named = g.B.Bank.trees c.var-2.new.self in
     let heard = g.B.Bank.trees c.add_heard.new.bank in
     let sent = g.B.Bank.trees c.add_sent.new.bank in
-    added_after old heard sent c.args.list.now c.add_heard.new.list c.add_sent.new.list (message_heard 0 ∷ []) (message_sent 0 ∷ []) c.add_sent.result
-    (added_later old named heard c.args.list.now c.add_heard.new.list (message_heard 0 ∷ []) (Grows_trans old (g.B.Bank.trees c.var.new.self) named c.var.ensures.grows c.var-2.ensures.grows) c.in_ok-add_heard.ensures.adds) c.add_sent.ensures.adds
+    added_after old heard sent c.args.list.now c.add_heard.new.list c.add_sent.new.list (message_heard c.args.at.phase ∷ []) (message_sent c.args.at.phase ∷ []) c.add_sent.result
+    (added_later old named heard c.args.list.now c.add_heard.new.list (message_heard c.args.at.phase ∷ []) (Grows_trans old (g.B.Bank.trees c.var.new.self) named c.var.ensures.grows c.var-2.ensures.grows) c.in_ok-add_heard.ensures.adds) c.add_sent.ensures.adds
 
 pub returns-in_err-message-clause-grows : goal.returns-in_err-message-clause-grows
 returns-in_err-message-clause-grows g c = Grows_trans (g.B.Bank.trees c.args.bank.now) (g.B.Bank.trees c.var.new.self) (g.B.Bank.trees c.var-2.new.self) c.var.ensures.grows c.var-2.ensures.grows

@@ -22,8 +22,8 @@ returns-clause-adds g c =
     let vs = variables_from 0 c.args.declared.now.arity in
     let first = shown_terms mid mid c.in_ok-arguments.arguments c.arguments.inside.items.items c.deref.result.now vs (Grows_refl mid) c.deref.ensures.value c.arguments.view_is c.in_ok-arguments.ensures.names in
     let later = shown_terms mid made c.in_ok-arguments.arguments c.arguments.inside.items.items c.deref-2.result.now vs c.app.ensures.grows c.deref-2.ensures.value c.arguments.view_is c.in_ok-arguments.ensures.names in
-    let whole = constructor_listed c.args.number (declared_of c.args.declared.now) (map (tree_at made) c.deref-2.result.now) (tree_at made c.in_ok-made.made) (sym c.is_applied.ensures ∙ c.if-not-is_applied.false) later (c.in_ok-made.ensures.names.is ∙ ap (node (Ctor c.args.number)) first) in
-    last_added old made (g.B.Bank.trees c.add_known.new.bank) c.args.list.now c.add_known.new.list (known_clause (map (tree_at made) c.deref-2.result.now) (tree_at made c.in_ok-made.made) ∷ []) (cons_option (constructor_applied 0 (c.args.number, declared_of c.args.declared.now)) [])
+    let whole = constructor_listed c.args.at.phase c.args.number (declared_of c.args.declared.now) (map (tree_at made) c.deref-2.result.now) (tree_at made c.in_ok-made.made) (sym c.is_applied.ensures ∙ c.if-not-is_applied.false) later (c.in_ok-made.ensures.names.is ∙ ap (node (Ctor c.args.number)) first) in
+    last_added old made (g.B.Bank.trees c.add_known.new.bank) c.args.list.now c.add_known.new.list (known_clause c.args.at.phase (map (tree_at made) c.deref-2.result.now) (tree_at made c.in_ok-made.made) ∷ []) (cons_option (constructor_applied c.args.at.phase (c.args.number, declared_of c.args.declared.now)) [])
     c.add_known.result (Grows_trans old mid made c.variables.ensures.grows c.app.ensures.grows) whole c.add_known.ensures.adds
 
 pub returns-in_err-made-clause-grows : goal.returns-in_err-made-clause-grows

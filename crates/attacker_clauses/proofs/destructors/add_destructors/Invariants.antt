@@ -7,4 +7,4 @@ use Rattle.attacker_clauses.proofs.destructors.add_destructors.Given as goal
 
 abbrev pub invariant-loop-destructor : goal.invariant-loop-destructor
 invariant-loop-destructor g l =
-    AreAdded (g.B.Bank.trees l.fn.bank) (g.B.Bank.trees l.bank) l.fn.list l.list (flat_map (λ d. map (rule_applied (protocol_of l.protocol) 0) d.rules) (map destructor_of (take l.destructor-index l.destructor-items)))
+    AreAdded (g.B.Bank.trees l.fn.bank) (g.B.Bank.trees l.bank) l.fn.list l.list (flat_map (λ d. map (rule_applied (protocol_of l.protocol) l.at.phase) d.rules) (map destructor_of (take l.destructor-index l.destructor-items)))

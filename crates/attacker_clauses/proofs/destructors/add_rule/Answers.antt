@@ -16,8 +16,8 @@ returns-clause-adds g c =
     let P = protocol_of c.args.protocol.now in
     let rule = rule_of c.args.rule.now in
     let left = shown_terms made made c.in_ok-left.left c.left.inside.items.items c.deref.result.now (map (rule_term P 0) rule.left) (Grows_refl made) c.deref.ensures.value c.left.view_is c.in_ok-left.ensures.left in
-    last_added old made (g.B.Bank.trees c.add_known.new.bank) c.args.list.now c.add_known.new.list (known_clause (map (tree_at made) c.deref.result.now) (tree_at made c.in_ok-left.right) ∷ []) (rule_applied P 0 rule ∷ [])
-    c.add_known.result c.rename_rule.ensures.grows (rule_listed P rule (map (tree_at made) c.deref.result.now) (tree_at made c.in_ok-left.right) left c.in_ok-left.ensures.right.is) c.add_known.ensures.adds
+    last_added old made (g.B.Bank.trees c.add_known.new.bank) c.args.list.now c.add_known.new.list (known_clause c.args.at.phase (map (tree_at made) c.deref.result.now) (tree_at made c.in_ok-left.right) ∷ []) (rule_applied P c.args.at.phase rule ∷ [])
+    c.add_known.result c.rename_rule.ensures.grows (rule_listed P c.args.at.phase rule (map (tree_at made) c.deref.result.now) (tree_at made c.in_ok-left.right) left c.in_ok-left.ensures.right.is) c.add_known.ensures.adds
 
 pub returns-clause-grows : goal.returns-clause-grows
 returns-clause-grows g c = Grows_trans (g.B.Bank.trees c.args.bank.now) (g.B.Bank.trees c.rename_rule.new.bank) (g.B.Bank.trees c.add_known.new.bank) c.rename_rule.ensures.grows c.add_known.ensures.grows

@@ -13,7 +13,7 @@ returns-clause-adds g c =
     let old = g.B.Bank.trees c.args.bank.now in
     let made = g.B.Bank.trees c.app.new.self in
     let public : c.args.declared.now.public ≡ true = search rules in
-    last_added old made (g.B.Bank.trees c.add_known.new.bank) c.args.list.now c.add_known.new.list (known_clause [] (tree_at made c.in_ok-name.name) ∷ []) (cons_option (name_known (c.args.number, declared_of c.args.declared.now)) [])
+    last_added old made (g.B.Bank.trees c.add_known.new.bank) c.args.list.now c.add_known.new.list (known_clause 0 [] (tree_at made c.in_ok-name.name) ∷ []) (cons_option (name_known (c.args.number, declared_of c.args.declared.now)) [])
     c.add_known.result c.app.ensures.grows (name_listed c.args.number (declared_of c.args.declared.now) (tree_at made c.in_ok-name.name) public c.in_ok-name.ensures.names.is) c.add_known.ensures.adds
 
 pub returns-clause-grows : goal.returns-clause-grows

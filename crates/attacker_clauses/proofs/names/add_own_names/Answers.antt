@@ -14,8 +14,8 @@ returns-clause-adds g c =
     let mid = g.B.Bank.trees c.var.new.self in
     let made = g.B.Bank.trees c.app.new.self in
     let is = c.in_ok-name.ensures.names.is ∙ ap (λ t. node Attacker (t ∷ [])) c.in_ok-variable.ensures.names.is in
-    last_added old made (g.B.Bank.trees c.add_known.new.bank) c.args.list.now c.add_known.new.list (known_clause [] (tree_at made c.in_ok-name.name) ∷ []) (fresh_known ∷ [])
-    c.add_known.result (Grows_trans old mid made c.var.ensures.grows c.app.ensures.grows) (ap (λ t. known_clause [] t ∷ []) is) c.add_known.ensures.adds
+    last_added old made (g.B.Bank.trees c.add_known.new.bank) c.args.list.now c.add_known.new.list (known_clause 0 [] (tree_at made c.in_ok-name.name) ∷ []) (fresh_known ∷ [])
+    c.add_known.result (Grows_trans old mid made c.var.ensures.grows c.app.ensures.grows) (ap (λ t. known_clause 0 [] t ∷ []) is) c.add_known.ensures.adds
 
 pub returns-in_err-name-clause-grows : goal.returns-in_err-name-clause-grows
 returns-in_err-name-clause-grows g c = Grows_trans (g.B.Bank.trees c.args.bank.now) (g.B.Bank.trees c.var.new.self) (g.B.Bank.trees c.app.new.self) c.var.ensures.grows c.app.ensures.grows

@@ -1,10 +1,14 @@
+use Rattle.std.proofs.Common.{subst}
 use Rattle.std.proofs.lemmas.Result.{on_ok_weaker}
 use Rattle.pi_tree.specs.Protocols.{protocol_of}
-use Rattle.cert_form.proofs.Facts.{event_written}
+use Rattle.spec_node_tables.specs.Text.{word_over}
+use Rattle.cert_form.specs.Writing.{Writes}
 use Rattle.cert_form.proofs.clause_text.put_event.Goals as goal
 
 pub returns : goal.returns
-returns g c = on_ok_weaker c.put_word_end.result (λ closed.
-    event_written g.T.TermWriter.kept_of g.T.TermWriter.one (protocol_of c.args.protocol.now) c.args.event c.args.arguments.now (g.T.TermWriter.kept c.args.writer.now) (g.T.TermWriter.kept c.put_terms.new.writer) c.args.out.now.items c.put_word.new.out.items c.put_terms.new.out.items c.put_word_end.new.out.items
-    c.declared_word.result.now c.is_alone-alone.result c.declared_word.ensures c.is_alone-alone.ensures c.in_ok-put_word.ensures c.in_ok-put_terms.ensures closed)
-    c.put_word_end.ensures
+returns g c =
+    let P = protocol_of c.args.protocol.now in
+    let ts = c.args.arguments.now in
+    let one = g.T.TermWriter.one P in
+    on_ok_weaker c.put_call.result (λ put. subst (λ w. Writes g.T.TermWriter.kept_of one ts (λ o. word_over o P w ts) (g.T.TermWriter.kept c.args.writer.now) (g.T.TermWriter.kept c.put_call.new.writer) c.args.out.now.items c.put_call.new.out.items) c.declared_word.ensures put)
+    c.put_call.ensures

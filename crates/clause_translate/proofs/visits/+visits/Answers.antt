@@ -1,4 +1,4 @@
-use Rattle.std.proofs.Common.{◌≡◌, ℕ, suc, ◌+◌, ◌-◌, ◌≤◌, true, false, Option, Some, None, List, [], map, length, take, drop, refl, ap, sym, subst, ◌∙◌, arith}
+use Rattle.std.proofs.Common.{◌≡◌, ℕ, suc, ◌+◌, ◌-◌, ◌≤◌, true, false, Option, Some, None, List, [], map, length, take, drop, refl, ap, sym, subst, ◌∙◌, arith, ◌∷◌}
 use Rattle.std.specs.Prelude.{IfOk, IfSome, MatchOption, MatchBool}
 use Rattle.spec_calculus.specs.Syntax as calculus
 use Rattle.pi_tree.specs.declared.syntax.Process.{Process}
@@ -6,12 +6,12 @@ use Rattle.pi_tree.specs.Terms.{term_of}
 use Rattle.pi_tree.specs.Patterns.{pattern_of}
 use Rattle.pi_tree.specs.Expressions.{expression_of}
 use Rattle.pi_tree.specs.Events.{event_of}
-use Rattle.pi_tree.specs.Processes.{process_of}
+use Rattle.pi_tree.specs.Processes.{condition_of, process_of}
 use Rattle.spec_terms.specs.Term.{Term}
 use Rattle.term_tree.specs.Bank.{Grows}
 use Rattle.term_tree.proofs.BankLaws.{Grows_refl, Grows_trans, take-grows, Grows-length}
 use Rattle.spec_calculus.specs.Syntax.{Ruled}
-use Rattle.spec_translation.specs.Visit.{Visit, is_large_visit, after_new}
+use Rattle.spec_translation.specs.Visit.{Visit, is_large_visit, after_new, after_phase}
 use Rattle.spec_translation.specs.Choice.{EachGoesOn}
 use Rattle.spec_choice_walks.specs.Instructions.{completions, choices_by}
 use Rattle.term_values.specs.Instructions.{instruction_of}
@@ -19,18 +19,19 @@ use Rattle.process_visits.specs.declared.listing.Listing.{Listing}
 use Rattle.process_visits.specs.declared.visit.Visit as source
 use Rattle.process_visits.specs.declared.ways.Way.{Way}
 use Rattle.process_visits.specs.Places.{protocol_at, HasFewPoints}
-use Rattle.process_visits.specs.Processes.{output_form, input_form, parallel_form, let_form, event_form}
+use Rattle.process_visits.specs.Processes.{output_form, input_form, parallel_form, let_form, event_form, phase_form, insert_form, get_form}
 use Rattle.process_visits.specs.Short.{IsFitProcess}
 use Rattle.process_visits.specs.Visits.{visit_at, NamesVisit}
-use Rattle.process_visits.specs.Forms.{is_large_output, Receives, IsLargeInput, EventAdds}
+use Rattle.process_visits.specs.Forms.{is_large_output, is_large_insert, Receives, IsLargeInput, EventAdds}
 use Rattle.process_visits.specs.Walks.{choices_of}
 use Rattle.clause_translate.specs.Jobs.{Once, Uncounted, Each, Ends, AreSmallWays, IsKnownWay, EndsEach}
 use Rattle.process_visits.proofs.Named.{if_ok, visit_later}
 use Rattle.process_visits.proofs.Passing.{choices_counted}
 use Rattle.clause_translate.proofs.Weights.{weight}
-use Rattle.clause_translate.proofs.FewCopies.{next_copies, later_copies, kept_copies, one_copy, below_copies, known_way}
+use Rattle.clause_translate.proofs.FewCopies.{next_copies, later_copies, kept_copies, one_copy, below_copies, known_way, entry_known}
+use Rattle.clause_translate.proofs.EntryWays.{large_way, small_way}
 use Rattle.clause_translate.proofs.FewPoints.{next_fit, next_few, next_point, left_few, right_few, left_point, right_point}
-use Rattle.clause_translate.proofs.Visiting.{none_left, nil_ends, spelled, counted_ok, ends_back, moved, moved_each, output_ends, event_ends, input_ends, copies_ends, new_ends, parallel_ends, let_ends, next_large, output_large, event_large, input_large, new_large, left_large, let_large, choice_large}
+use Rattle.clause_translate.proofs.Visiting.{none_left, nil_ends, spelled, counted_ok, ends_back, moved, moved_each, output_ends, event_ends, input_ends, copies_ends, new_ends, parallel_ends, let_ends, next_large, output_large, event_large, input_large, new_large, left_large, let_large, choice_large, phase_ends, insert_large, insert_ends, get_large, entry_large, entry_next_large, get_ends}
 use Rattle.clause_translate.proofs.LetVisits.{few_left, completed_by, choosing_known, small_let, small_later, choosing_later, passes_as, passed_within}
 use Rattle.clause_translate.proofs.Repeating.{none_visited, passed_small, more_visited, large_visited, all_visited, nowhere_of, nowhere_ends, visit_ends}
 use Rattle.clause_translate.proofs.visits.+visits.Goals as goal
@@ -800,3 +801,236 @@ visit_choices-returns-in-Some-clause-grows g t c =
 
 pub visit_choices-returns-clause-grows : goal.visit_choices-returns-clause-grows
 visit_choices-returns-clause-grows g t c = c.each.invariant.grows
+
+-- waits for a phase, `insert`s and `get`s
+pub visit_form-visit_phase-requires : goal.visit_form-visit_phase-requires
+visit_form-visit_phase-requires g t c κs within =
+    let same : process_of c.args.process.now ≡ calculus.Phase c.in-Phase.number (process_of c.deref-in-Phase.result.now) = ap process_of c.in-Phase.is ∙ ap (λ (x : Process). calculus.Phase c.in-Phase.number (process_of x)) (sym c.deref-in-Phase.ensures) in
+    (omega (arith, c.decreases, ap (λ (p : calculus.Process). weight p) same), (within, (c.requires.visit, (subst (λ (p : calculus.Process). IsFitProcess (protocol_at c.args.place.now) p) same c.requires.fit, (subst (λ (p : calculus.Process). HasFewPoints c.args.place.now.point p) same c.requires.points, c.requires.copies)))))
+
+pub visit_form-returns-in-Phase-clause-ends : goal.visit_form-returns-in-Phase-clause-ends
+visit_form-returns-in-Phase-clause-ends g t c =
+    let old = g.B.Bank.trees c.args.bank.now in
+    let P = protocol_at c.args.place.now in
+    let w = c.args.visit.now in
+    let v = visit_at old w in
+    let same : process_of c.args.process.now ≡ calculus.Phase c.in-Phase.number (process_of c.deref-in-Phase.result.now) = ap process_of c.in-Phase.is ∙ ap (λ (x : Process). calculus.Phase c.in-Phase.number (process_of x)) (sym c.deref-in-Phase.ensures) in
+    subst (λ (p : calculus.Process). IfOk c.visit_phase.result (λ large. Ends P (Uncounted p c.args.place.now.point v) (g.B.Bank.trees c.visit_phase.new.bank) c.args.listing.now c.visit_phase.new.listing large)) (sym same)
+    c.visit_phase.ensures.ends
+
+pub visit_form-returns-in-Phase-clause-grows : goal.visit_form-returns-in-Phase-clause-grows
+visit_form-returns-in-Phase-clause-grows g t c = c.visit_phase.ensures.grows
+
+pub visit_form-visit_insert-requires : goal.visit_form-visit_insert-requires
+visit_form-visit_insert-requires g t c κs within =
+    let same : process_of c.args.process.now ≡ calculus.Insert c.in-Insert.table c.in-Insert.arguments (process_of c.deref-in-Insert.result.now) = ap process_of c.in-Insert.is ∙ ap (λ (x : Process). calculus.Insert c.in-Insert.table c.in-Insert.arguments (process_of x)) (sym c.deref-in-Insert.ensures) in
+    (omega (arith, c.decreases, ap (λ (p : calculus.Process). weight p) same), (within, (c.requires.visit, (subst (λ (p : calculus.Process). IsFitProcess (protocol_at c.args.place.now) p) same c.requires.fit, (subst (λ (p : calculus.Process). HasFewPoints c.args.place.now.point p) same c.requires.points, c.requires.copies)))))
+
+pub visit_form-returns-in-Insert-clause-ends : goal.visit_form-returns-in-Insert-clause-ends
+visit_form-returns-in-Insert-clause-ends g t c =
+    let old = g.B.Bank.trees c.args.bank.now in
+    let P = protocol_at c.args.place.now in
+    let w = c.args.visit.now in
+    let v = visit_at old w in
+    let same : process_of c.args.process.now ≡ calculus.Insert c.in-Insert.table c.in-Insert.arguments (process_of c.deref-in-Insert.result.now) = ap process_of c.in-Insert.is ∙ ap (λ (x : Process). calculus.Insert c.in-Insert.table c.in-Insert.arguments (process_of x)) (sym c.deref-in-Insert.ensures) in
+    subst (λ (p : calculus.Process). IfOk c.visit_insert.result (λ large. Ends P (Uncounted p c.args.place.now.point v) (g.B.Bank.trees c.visit_insert.new.bank) c.args.listing.now c.visit_insert.new.listing large)) (sym same)
+    c.visit_insert.ensures.ends
+
+pub visit_form-returns-in-Insert-clause-grows : goal.visit_form-returns-in-Insert-clause-grows
+visit_form-returns-in-Insert-clause-grows g t c = c.visit_insert.ensures.grows
+
+pub visit_form-visit_get-requires : goal.visit_form-visit_get-requires
+visit_form-visit_get-requires g t c κs within =
+    let same : process_of c.args.process.now ≡ calculus.Get c.in-Get.table c.in-Get.patterns (condition_of c.in-Get.condition) (process_of c.deref-in-Get.result.now) (process_of c.deref-in-Get-2.result.now) = ap process_of c.in-Get.is ∙ ap (λ (x : Process). calculus.Get c.in-Get.table c.in-Get.patterns (condition_of c.in-Get.condition) (process_of x) (process_of c.in-Get.otherwise.value)) (sym c.deref-in-Get.ensures) ∙ ap (λ (x : Process). calculus.Get c.in-Get.table c.in-Get.patterns (condition_of c.in-Get.condition) (process_of c.deref-in-Get.result.now) (process_of x)) (sym c.deref-in-Get-2.ensures) in
+    (omega (arith, c.decreases, ap (λ (p : calculus.Process). weight p) same), (within, (c.requires.visit, (subst (λ (p : calculus.Process). IsFitProcess (protocol_at c.args.place.now) p) same c.requires.fit, (subst (λ (p : calculus.Process). HasFewPoints c.args.place.now.point p) same c.requires.points, c.requires.copies)))))
+
+pub visit_form-returns-in-Get-clause-ends : goal.visit_form-returns-in-Get-clause-ends
+visit_form-returns-in-Get-clause-ends g t c =
+    let old = g.B.Bank.trees c.args.bank.now in
+    let P = protocol_at c.args.place.now in
+    let w = c.args.visit.now in
+    let v = visit_at old w in
+    let same : process_of c.args.process.now ≡ calculus.Get c.in-Get.table c.in-Get.patterns (condition_of c.in-Get.condition) (process_of c.deref-in-Get.result.now) (process_of c.deref-in-Get-2.result.now) = ap process_of c.in-Get.is ∙ ap (λ (x : Process). calculus.Get c.in-Get.table c.in-Get.patterns (condition_of c.in-Get.condition) (process_of x) (process_of c.in-Get.otherwise.value)) (sym c.deref-in-Get.ensures) ∙ ap (λ (x : Process). calculus.Get c.in-Get.table c.in-Get.patterns (condition_of c.in-Get.condition) (process_of c.deref-in-Get.result.now) (process_of x)) (sym c.deref-in-Get-2.ensures) in
+    subst (λ (p : calculus.Process). IfOk c.visit_get.result (λ large. Ends P (Uncounted p c.args.place.now.point v) (g.B.Bank.trees c.visit_get.new.bank) c.args.listing.now c.visit_get.new.listing large)) (sym same)
+    c.visit_get.ensures.ends
+
+pub visit_form-returns-in-Get-clause-grows : goal.visit_form-returns-in-Get-clause-grows
+visit_form-returns-in-Get-clause-grows g t c = c.visit_get.ensures.grows
+
+pub visit_insert-visit_process-requires : goal.visit_insert-visit_process-requires
+visit_insert-visit_process-requires g t c κs within =
+    let old = g.B.Bank.trees c.args.bank.now in
+    let w = c.args.visit.now in
+    let mid = g.B.Bank.trees c.add_insert.new.bank in
+    let later = visit_later old mid w c.add_insert.ensures.grows c.requires.visit in
+    (omega (arith, c.decreases), (within, (later.known, (next_fit (process_of c.args.insert.now.next.now) c.below-below.result c.below-below.ensures c.requires.fit.1, (next_few c.args.place.now.point (insert_form c.args.insert.now) (process_of c.args.insert.now.next.now) refl c.below-below.result c.below-below.ensures c.requires.points, next_copies c.below-below.result c.args.place.now.point w c.below-below.ensures c.requires.copies)))))
+
+pub visit_insert-returns-clause-ends : goal.visit_insert-returns-clause-ends
+visit_insert-returns-clause-ends g t c =
+    let old = g.B.Bank.trees c.args.bank.now in
+    let P = protocol_at c.args.place.now in
+    let w = c.args.visit.now in
+    let v = visit_at old w in
+    let mid = g.B.Bank.trees c.add_insert.new.bank in
+    let adds = c.in_ok-add_insert.ensures.adds c.if-not-branch.false in
+    let later = visit_later old mid w c.add_insert.ensures.grows c.requires.visit in
+    let small = subst (λ b. MatchBool b (is_large_insert P v c.args.insert.now.table c.args.insert.now.arguments.now ≡ false) (is_large_insert P v c.args.insert.now.table c.args.insert.now.arguments.now ≡ true)) c.if-not-branch.false c.in_ok-add_insert.ensures.large in
+    insert_ends c.visit_process.result P v c.args.insert.now.table c.args.insert.now.arguments.now (process_of c.args.insert.now.next.now) c.args.place.now.point c.below-below.result (visit_at mid w) mid (g.B.Bank.trees c.visit_process.new.bank) c.args.listing.now c.add_insert.new.listing c.visit_process.new.listing
+    c.below-below.ensures later.is small c.visit_process.ensures.grows adds c.visit_process.ensures.ends
+
+pub visit_insert-returns-clause-grows : goal.visit_insert-returns-clause-grows
+visit_insert-returns-clause-grows g t c = Grows_trans (g.B.Bank.trees c.args.bank.now) (g.B.Bank.trees c.add_insert.new.bank) (g.B.Bank.trees c.visit_process.new.bank) c.add_insert.ensures.grows c.visit_process.ensures.grows
+
+pub visit_insert-returns-then-not-branch-clause-grows : goal.visit_insert-returns-then-not-branch-clause-grows
+visit_insert-returns-then-not-branch-clause-grows g t c = c.add_insert.ensures.grows
+
+pub visit_insert-returns-then-not-branch-clause-ends : goal.visit_insert-returns-then-not-branch-clause-ends
+visit_insert-returns-then-not-branch-clause-ends g t c =
+    let P = protocol_at c.args.place.now in
+    let v = visit_at (g.B.Bank.trees c.args.bank.now) c.args.visit.now in
+    let point = c.args.place.now.point in
+    let table = c.args.insert.now.table in
+    let arguments = c.args.insert.now.arguments.now in
+    insert_large P v table arguments (process_of c.args.insert.now.next.now) point c.args.listing.now.left
+    (subst (λ b. MatchBool b (is_large_insert P v table arguments ≡ false) (is_large_insert P v table arguments ≡ true)) c.if-not-branch.true c.in_ok-add_insert.ensures.large)
+
+pub visit_insert-below-below-requires : goal.visit_insert-below-below-requires
+visit_insert-below-below-requires g t c = next_point c.args.place.now.point (insert_form c.args.insert.now) (process_of c.args.insert.now.next.now) refl c.requires.points
+
+-- a wait for a phase
+pub visit_phase-visit_process-requires : goal.visit_phase-visit_process-requires
+visit_phase-visit_process-requires g t c κs within =
+    let old = g.B.Bank.trees c.args.bank.now in
+    let w = c.args.visit.now in
+    let phase = c.args.phase.now in
+    let names = c.in_ok-made.ensures old c.requires.visit in
+    let kept = kept_copies old old w c.in_ok-made.made (after_phase (visit_at old w) phase.number) names refl in
+    (omega (arith, c.decreases), (within, (names.known, (next_fit (process_of phase.next.now) c.below-below.result c.below-below.ensures c.requires.fit, (next_few c.args.place.now.point (phase_form phase) (process_of phase.next.now) refl c.below-below.result c.below-below.ensures c.requires.points, below_copies old old w c.in_ok-made.made c.below-below.result c.args.place.now.point c.below-below.ensures c.requires.copies (omega (arith, kept)))))))
+
+pub visit_phase-returns-clause-ends : goal.visit_phase-returns-clause-ends
+visit_phase-returns-clause-ends g t c =
+    let old = g.B.Bank.trees c.args.bank.now in
+    let P = protocol_at c.args.place.now in
+    let w = c.args.visit.now in
+    let phase = c.args.phase.now in
+    phase_ends c.visit_process.result P (visit_at old w) phase.number (process_of phase.next.now) c.args.place.now.point c.below-below.result c.in_ok-made.made old (g.B.Bank.trees c.visit_process.new.bank) c.args.listing.now c.visit_process.new.listing
+    c.below-below.ensures (c.in_ok-made.ensures old c.requires.visit) c.visit_process.ensures.ends
+
+pub visit_phase-below-below-requires : goal.visit_phase-below-below-requires
+visit_phase-below-below-requires g t c = next_point c.args.place.now.point (phase_form c.args.phase.now) (process_of c.args.phase.now.next.now) refl c.requires.points
+
+pub visit_phase-returns-clause-grows : goal.visit_phase-returns-clause-grows
+visit_phase-returns-clause-grows g t c = c.visit_process.ensures.grows
+
+pub visit_phase-returns-in_err-made-clause-grows : goal.visit_phase-returns-in_err-made-clause-grows
+visit_phase-returns-in_err-made-clause-grows g t c = Grows_refl (g.B.Bank.trees c.args.bank.now)
+
+-- a `get`
+pub visit_get-below-below-requires : goal.visit_get-below-below-requires
+visit_get-below-below-requires g t c = left_point c.args.place.now.point (get_form c.args.get.now) (process_of c.args.get.now.next.now) (process_of c.args.get.now.otherwise.now) refl c.requires.points
+
+pub visit_get-after-after-requires : goal.visit_get-after-after-requires
+visit_get-after-after-requires g t c = right_point c.args.place.now.point (get_form c.args.get.now) (process_of c.args.get.now.next.now) (process_of c.args.get.now.otherwise.now) refl c.requires.points
+
+pub visit_get-returns-then-some_large_compared_in-clause-grows : goal.visit_get-returns-then-some_large_compared_in-clause-grows
+visit_get-returns-then-some_large_compared_in-clause-grows g t c = Grows_refl (g.B.Bank.trees c.args.bank.now)
+
+pub visit_get-returns-then-some_large_compared_in-clause-ends : goal.visit_get-returns-then-some_large_compared_in-clause-ends
+visit_get-returns-then-some_large_compared_in-clause-ends g t c =
+    let P = protocol_at c.args.place.now in
+    let v = visit_at (g.B.Bank.trees c.args.bank.now) c.args.visit.now in
+    let get = c.args.get.now in
+    get_large P v get.table get.patterns.now (condition_of get.condition.now) (process_of get.next.now) (process_of get.otherwise.now) c.args.place.now.point c.args.listing.now.left
+    (sym c.some_large_compared_in.ensures ∙ c.if-some_large_compared_in.true)
+
+pub visit_get-returns-in_err-way-clause-grows : goal.visit_get-returns-in_err-way-clause-grows
+visit_get-returns-in_err-way-clause-grows g t c = c.entry_way.ensures.grows
+
+pub visit_get-returns-then-is_large-clause-grows : goal.visit_get-returns-then-is_large-clause-grows
+visit_get-returns-then-is_large-clause-grows g t c = c.entry_way.ensures.grows
+
+pub visit_get-returns-then-is_large-clause-ends : goal.visit_get-returns-then-is_large-clause-ends
+visit_get-returns-then-is_large-clause-ends g t c =
+    let P = protocol_at c.args.place.now in
+    let v = visit_at (g.B.Bank.trees c.args.bank.now) c.args.visit.now in
+    let mid = g.B.Bank.trees c.entry_way.new.bank in
+    let get = c.args.get.now in
+    let goes = c.in_ok-way.ensures.goes in
+    entry_large P v get.table get.patterns.now (condition_of get.condition.now) (process_of get.next.now) (process_of get.otherwise.now) c.args.place.now.point c.args.listing.now.left goes.large goes.out
+    (sym c.some_large_compared_in.ensures ∙ c.if-some_large_compared_in.false) goes.goes (large_way mid c.in_ok-way.way goes.large goes.out (sym c.is_large.ensures ∙ c.if-is_large.true) goes.way)
+
+pub visit_get-visit_way-requires : goal.visit_get-visit_way-requires
+visit_get-visit_way-requires g t c κs within =
+    let old = g.B.Bank.trees c.args.bank.now in
+    let mid = g.B.Bank.trees c.entry_way.new.bank in
+    let P = protocol_at c.args.place.now in
+    let get = c.args.get.now in
+    let next = process_of get.next.now in
+    let otherwise = process_of get.otherwise.now in
+    let point = c.args.place.now.point in
+    let goes = c.in_ok-way.ensures.goes in
+    (omega (arith, c.decreases), (within, (entry_known P get.table get.patterns.now (condition_of get.condition.now) c.below-below.result point old mid c.args.visit.now goes.large goes.out c.in_ok-way.way c.below-below.ensures c.requires.copies goes.goes goes.way, (next_fit next c.below-below.result c.below-below.ensures c.requires.fit.2, left_few point (get_form get) next otherwise refl c.below-below.result c.below-below.ensures c.requires.points))))
+
+pub visit_get-returns-in_err-point-clause-grows : goal.visit_get-returns-in_err-point-clause-grows
+visit_get-returns-in_err-point-clause-grows g t c = Grows_trans (g.B.Bank.trees c.args.bank.now) (g.B.Bank.trees c.entry_way.new.bank) (g.B.Bank.trees c.visit_way.new.bank) c.entry_way.ensures.grows c.visit_way.ensures.grows
+
+pub visit_get-returns-in-Some-clause-grows : goal.visit_get-returns-in-Some-clause-grows
+visit_get-returns-in-Some-clause-grows g t c = Grows_trans (g.B.Bank.trees c.args.bank.now) (g.B.Bank.trees c.entry_way.new.bank) (g.B.Bank.trees c.visit_way.new.bank) c.entry_way.ensures.grows c.visit_way.ensures.grows
+
+pub visit_get-returns-in-Some-clause-ends : goal.visit_get-returns-in-Some-clause-ends
+visit_get-returns-in-Some-clause-ends g t c =
+    let old = g.B.Bank.trees c.args.bank.now in
+    let mid = g.B.Bank.trees c.entry_way.new.bank in
+    let end = g.B.Bank.trees c.visit_way.new.bank in
+    let P = protocol_at c.args.place.now in
+    let v = visit_at old c.args.visit.now in
+    let get = c.args.get.now in
+    let next = process_of get.next.now in
+    let point = c.args.place.now.point in
+    let goes = c.in_ok-way.ensures.goes in
+    let small = small_way mid c.in_ok-way.way goes.large goes.out (sym c.is_large.ensures ∙ c.if-is_large.false) goes.way in
+    let before = c.args.listing.now in
+    let after = c.visit_way.new.listing in
+    let ends = subst (λ (o : Option ℕ). Ends (protocol_at c.below-below.result) (Each next c.below-below.result.point (goes.out ∷ [])) end before after o) c.in-Some.is (c.in_ok-point.ensures.ends (goes.out ∷ []) small.ways) in
+    entry_next_large P v get.table get.patterns.now (condition_of get.condition.now) next (process_of get.otherwise.now) point goes.large goes.out (sym c.some_large_compared_in.ensures ∙ c.if-some_large_compared_in.false) goes.goes small.is end before after c.in-Some.point
+    (moved_each P (point + 1) c.below-below.result (goes.out ∷ []) next end before after (Some c.in-Some.point) c.below-below.ensures ends)
+
+pub visit_get-visit_process-requires : goal.visit_get-visit_process-requires
+visit_get-visit_process-requires g t c κs within =
+    let old = g.B.Bank.trees c.args.bank.now in
+    let mid = g.B.Bank.trees c.entry_way.new.bank in
+    let end = g.B.Bank.trees c.visit_way.new.bank in
+    let w = c.args.visit.now in
+    let get = c.args.get.now in
+    let next = process_of get.next.now in
+    let otherwise = process_of get.otherwise.now in
+    let later = visit_later old end w (Grows_trans old mid end c.entry_way.ensures.grows c.visit_way.ensures.grows) c.requires.visit in
+    (omega (arith, c.decreases), (within, (later.known, (next_fit otherwise c.after-after.result c.after-after.ensures c.requires.fit.3, (right_few c.args.place.now.point (get_form get) next otherwise refl c.after-after.result c.after-after.ensures c.requires.points, later_copies c.after-after.result c.args.place.now.point next w c.after-after.ensures c.requires.copies)))))
+
+pub visit_get-returns-clause-ends : goal.visit_get-returns-clause-ends
+visit_get-returns-clause-ends g t c =
+    let old = g.B.Bank.trees c.args.bank.now in
+    let mid = g.B.Bank.trees c.entry_way.new.bank in
+    let end = g.B.Bank.trees c.visit_way.new.bank in
+    let P = protocol_at c.args.place.now in
+    let w = c.args.visit.now in
+    let v = visit_at old w in
+    let get = c.args.get.now in
+    let next = process_of get.next.now in
+    let point = c.args.place.now.point in
+    let goes = c.in_ok-way.ensures.goes in
+    let small = small_way mid c.in_ok-way.way goes.large goes.out (sym c.is_large.ensures ∙ c.if-is_large.false) goes.way in
+    let before = c.args.listing.now in
+    let midway = c.visit_way.new.listing in
+    let ends = subst (λ (o : Option ℕ). Ends (protocol_at c.below-below.result) (Each next c.below-below.result.point (goes.out ∷ [])) end before midway o) c.in-None.is (c.in_ok-point.ensures.ends (goes.out ∷ []) small.ways) in
+    let done = moved_each P (point + 1) c.below-below.result (goes.out ∷ []) next end before midway None c.below-below.ensures ends in
+    let later = visit_later old end w (Grows_trans old mid end c.entry_way.ensures.grows c.visit_way.ensures.grows) c.requires.visit in
+    get_ends P v get.table get.patterns.now (condition_of get.condition.now) next (process_of get.otherwise.now) point goes.large goes.out (sym c.some_large_compared_in.ensures ∙ c.if-some_large_compared_in.false) goes.goes small.is
+    c.visit_process.result c.after-after.result (visit_at end w) end (g.B.Bank.trees c.visit_process.new.bank) before midway c.visit_process.new.listing c.after-after.ensures later.is c.visit_process.ensures.grows done c.visit_process.ensures.ends
+
+pub visit_get-returns-clause-grows : goal.visit_get-returns-clause-grows
+visit_get-returns-clause-grows g t c =
+    let old = g.B.Bank.trees c.args.bank.now in
+    let mid = g.B.Bank.trees c.entry_way.new.bank in
+    let end = g.B.Bank.trees c.visit_way.new.bank in
+    Grows_trans old end (g.B.Bank.trees c.visit_process.new.bank) (Grows_trans old mid end c.entry_way.ensures.grows c.visit_way.ensures.grows) c.visit_process.ensures.grows

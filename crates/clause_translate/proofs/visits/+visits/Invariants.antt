@@ -39,6 +39,15 @@ decreases-visit_new g l = 6 * weight (process_of l.next.now) + 5
 abbrev pub decreases-visit_event : goal.decreases-visit_event
 decreases-visit_event g l = 6 * weight (process_of l.event.now.next.now) + 5
 
+abbrev pub decreases-visit_phase : goal.decreases-visit_phase
+decreases-visit_phase g l = 6 * weight (process_of l.phase.now.next.now) + 5
+
+abbrev pub decreases-visit_insert : goal.decreases-visit_insert
+decreases-visit_insert g l = 6 * weight (process_of l.insert.now.next.now) + 5
+
+abbrev pub decreases-visit_get : goal.decreases-visit_get
+decreases-visit_get g l = 6 * (weight (process_of l.get.now.next.now) + weight (process_of l.get.now.otherwise.now)) + 5
+
 abbrev pub decreases-visit_parallel : goal.decreases-visit_parallel
 decreases-visit_parallel g l = 6 * (weight (process_of l.both.now.left.now) + weight (process_of l.both.now.right.now)) + 5
 

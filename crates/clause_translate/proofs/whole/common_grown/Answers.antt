@@ -1,6 +1,5 @@
 use Rattle.std.proofs.Common.{subst}
 use Rattle.pi_tree.specs.Protocols.{protocol_of}
-use Rattle.pi_tree.proofs.Plain.{process_plain}
 use Rattle.clause_translate.specs.declared.whole.Translated.{Translated}
 use Rattle.clause_translate.specs.Whole.{IsVisited}
 use Rattle.clause_translate.proofs.FewPoints.{first_few}
@@ -10,7 +9,7 @@ use Rattle.term_tree.proofs.BankLaws.{Grows_trans}
 use Rattle.clause_translate.proofs.whole.common_grown.Goals as goal
 
 pub visited-requires-clause-fit : goal.visited-requires-clause-fit
-visited-requires-clause-fit g c = main_fit (protocol_of c.args.protocol.now) (process_plain c.args.protocol.now.main) c.requires.scoped
+visited-requires-clause-fit g c = main_fit (protocol_of c.args.protocol.now) c.requires.scoped
 
 pub visited-requires-clause-rules : goal.visited-requires-clause-rules
 visited-requires-clause-rules g c = has_fit_rules (protocol_of c.args.protocol.now) c.requires.rules c.requires.limits c.requires.scoped

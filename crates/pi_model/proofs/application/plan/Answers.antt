@@ -96,17 +96,17 @@ returns-in-Next-clause-possible c = of_form-possible (protocol_of c.args.protoco
 pub returns-in-Next-clause-refused : goal.returns-in-Next-clause-refused
 returns-in-Next-clause-refused c = of_form-refused (protocol_of c.args.protocol.now) (configuration_of c.args.conf.now) _ _ c.next.result c.in-Next.is c.next.ensures.refused
 
-pub returns-in-Put-clause-possible : goal.returns-in-Put-clause-possible
-returns-in-Put-clause-possible c = of_form-possible (protocol_of c.args.protocol.now) (configuration_of c.args.conf.now) _ _ c.put.result c.in-Put.is c.put.ensures.possible
+pub returns-in-Insert-clause-possible : goal.returns-in-Insert-clause-possible
+returns-in-Insert-clause-possible c = of_form-possible (protocol_of c.args.protocol.now) (configuration_of c.args.conf.now) _ _ c.put.result c.in-Insert.is c.put.ensures.possible
 
-pub returns-in-Put-clause-refused : goal.returns-in-Put-clause-refused
-returns-in-Put-clause-refused c = of_form-refused (protocol_of c.args.protocol.now) (configuration_of c.args.conf.now) _ _ c.put.result c.in-Put.is c.put.ensures.refused
+pub returns-in-Insert-clause-refused : goal.returns-in-Insert-clause-refused
+returns-in-Insert-clause-refused c = of_form-refused (protocol_of c.args.protocol.now) (configuration_of c.args.conf.now) _ _ c.put.result c.in-Insert.is c.put.ensures.refused
 
-pub returns-in-Fetch-clause-possible : goal.returns-in-Fetch-clause-possible
-returns-in-Fetch-clause-possible c = of_form-possible (protocol_of c.args.protocol.now) (configuration_of c.args.conf.now) _ _ c.fetch.result c.in-Fetch.is c.fetch.ensures.possible
+pub returns-in-Get-clause-possible : goal.returns-in-Get-clause-possible
+returns-in-Get-clause-possible c = of_form-possible (protocol_of c.args.protocol.now) (configuration_of c.args.conf.now) _ _ c.fetch.result c.in-Get.is c.fetch.ensures.possible
 
-pub returns-in-Fetch-clause-refused : goal.returns-in-Fetch-clause-refused
-returns-in-Fetch-clause-refused c = of_form-refused (protocol_of c.args.protocol.now) (configuration_of c.args.conf.now) _ _ c.fetch.result c.in-Fetch.is c.fetch.ensures.refused
+pub returns-in-Get-clause-refused : goal.returns-in-Get-clause-refused
+returns-in-Get-clause-refused c = of_form-refused (protocol_of c.args.protocol.now) (configuration_of c.args.conf.now) _ _ c.fetch.result c.in-Get.is c.fetch.ensures.refused
 
 pub returns-in-Miss-clause-possible : goal.returns-in-Miss-clause-possible
 returns-in-Miss-clause-possible c = of_form-possible (protocol_of c.args.protocol.now) (configuration_of c.args.conf.now) _ _ c.miss.result c.in-Miss.is c.miss.ensures.possible

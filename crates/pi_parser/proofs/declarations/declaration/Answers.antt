@@ -21,6 +21,9 @@ reduc-requires-clause-room c = grind (arith, common_steps)
 pub event-requires-clause-room : goal.event-requires-clause-room
 event-requires-clause-room c = grind (arith, common_steps)
 
+pub table-requires-clause-room : goal.table-requires-clause-room
+table-requires-clause-room c = grind (arith, common_steps)
+
 pub query-requires-clause-room : goal.query-requires-clause-room
 query-requires-clause-room c = grind (arith, common_steps)
 

@@ -28,6 +28,15 @@ unit-let_in-requires t c = grind (arith, common_steps)
 pub unit-if_then-requires : goal.unit-if_then-requires
 unit-if_then-requires t c = grind (arith, common_steps)
 
+pub unit-phase-requires : goal.unit-phase-requires
+unit-phase-requires t c = grind (arith, common_steps)
+
+pub unit-insert-requires : goal.unit-insert-requires
+unit-insert-requires t c = grind (arith, common_steps)
+
+pub unit-get_in-requires : goal.unit-get_in-requires
+unit-get_in-requires t c = grind (arith, common_steps)
+
 pub unit-returns-in-Zero-clause-within : goal.unit-returns-in-Zero-clause-within
 unit-returns-in-Zero-clause-within t c = grind (arith, common_steps)
 
@@ -64,6 +73,15 @@ unit-returns-in-Let-clause-read t c = grind (arith, unit_deeper)
 pub unit-returns-in-If-clause-read : goal.unit-returns-in-If-clause-read
 unit-returns-in-If-clause-read t c = grind (arith, unit_deeper)
 
+pub unit-returns-in-Phase-clause-read : goal.unit-returns-in-Phase-clause-read
+unit-returns-in-Phase-clause-read t c = grind (arith, unit_deeper)
+
+pub unit-returns-in-Insert-clause-read : goal.unit-returns-in-Insert-clause-read
+unit-returns-in-Insert-clause-read t c = grind (arith, unit_deeper)
+
+pub unit-returns-in-Get-clause-read : goal.unit-returns-in-Get-clause-read
+unit-returns-in-Get-clause-read t c = grind (arith, unit_deeper)
+
 pub unit-returns-in_default : goal.unit-returns-in_default
 unit-returns-in_default t c = grind (arith, unit_deeper, unit_other)
 
@@ -87,6 +105,18 @@ let_in-returns-in_err-unit-clause-read t c = grind (arith, common_steps)
 
 pub if_then-returns-in_err-unit-clause-read : goal.if_then-returns-in_err-unit-clause-read
 if_then-returns-in_err-unit-clause-read t c = grind (arith, common_steps)
+
+pub get_in-returns-in_err-unit-clause-read : goal.get_in-returns-in_err-unit-clause-read
+get_in-returns-in_err-unit-clause-read t c = grind (arith, common_steps)
+
+pub get_in-returns-clause-read : goal.get_in-returns-clause-read
+get_in-returns-clause-read t c = grind (arith, common_steps)
+
+pub get_in-returns-clause-within : goal.get_in-returns-clause-within
+get_in-returns-clause-within t c = grind (arith, common_steps)
+
+pub insert-returns-clause-read : goal.insert-returns-clause-read
+insert-returns-clause-read t c = grind (arith, common_steps)
 
 pub let_in-returns-clause-read : goal.let_in-returns-clause-read
 let_in-returns-clause-read t c = grind (arith, common_steps)
@@ -129,6 +159,9 @@ branches-returns-clause-read t c = grind (arith, common_steps)
 
 pub new-returns-clause-read : goal.new-returns-clause-read
 new-returns-clause-read t c = grind (arith, common_steps)
+
+pub phase-returns-clause-read : goal.phase-returns-clause-read
+phase-returns-clause-read t c = grind (arith, common_steps)
 
 pub happens-returns-clause-read : goal.happens-returns-clause-read
 happens-returns-clause-read t c = grind (arith, common_steps)

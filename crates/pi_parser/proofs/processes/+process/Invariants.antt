@@ -7,6 +7,9 @@ decreases-branches l = 4 * l.left + 2
 abbrev pub decreases-happens : goal.decreases-happens
 decreases-happens l = 4 * l.left + 3
 
+abbrev pub decreases-get_in : goal.decreases-get_in
+decreases-get_in l = 4 * l.left + 3
+
 abbrev pub decreases-if_then : goal.decreases-if_then
 decreases-if_then l = 4 * l.left + 3
 
@@ -15,6 +18,9 @@ decreases-inner l = 4 * l.left + 3
 
 abbrev pub decreases-input : goal.decreases-input
 decreases-input l = 4 * l.left + 3
+
+abbrev pub decreases-insert : goal.decreases-insert
+decreases-insert l = 4 * l.left + 3
 
 abbrev pub decreases-let_in : goal.decreases-let_in
 decreases-let_in l = 4 * l.left + 3
@@ -27,6 +33,9 @@ decreases-next l = 4 * l.left + 1
 
 abbrev pub decreases-output : goal.decreases-output
 decreases-output l = 4 * l.left + 3
+
+abbrev pub decreases-phase : goal.decreases-phase
+decreases-phase l = 4 * l.left + 3
 
 abbrev pub decreases-process : goal.decreases-process
 decreases-process l = 4 * l.left

@@ -3,11 +3,17 @@ use Rattle.std.proofs.Common.{arith}
 use Rattle.std.proofs.lemmas.Grind.{common_steps}
 use Rattle.pi_parser.proofs.queries.attacker.Goals as goal
 
-pub returns-in_ok-behind-clause-read : goal.returns-in_ok-behind-clause-read
-returns-in_ok-behind-clause-read c = grind (arith, common_steps)
+pub returns-in_ok-phase-clause-read : goal.returns-in_ok-phase-clause-read
+returns-in_ok-phase-clause-read c = grind (arith, common_steps)
 
-pub returns-in_ok-behind-2-clause-read : goal.returns-in_ok-behind-2-clause-read
-returns-in_ok-behind-2-clause-read c = grind (arith, common_steps)
+pub returns-in_ok-phase-2-clause-read : goal.returns-in_ok-phase-2-clause-read
+returns-in_ok-phase-2-clause-read c = grind (arith, common_steps)
+
+pub returns-in_err-phase-clause-read : goal.returns-in_err-phase-clause-read
+returns-in_err-phase-clause-read c = grind (arith, common_steps)
+
+pub returns-in_err-phase-2-clause-read : goal.returns-in_err-phase-2-clause-read
+returns-in_err-phase-2-clause-read c = grind (arith, common_steps)
 
 pub returns-in_err-message-clause-read : goal.returns-in_err-message-clause-read
 returns-in_err-message-clause-read c = grind (arith, common_steps)

@@ -17,7 +17,7 @@ returns-clause-names g c =
     let new = g.B.Bank.trees c.sent_in.new.bank in
     let P = protocol_at c.args.place.now in
     let v = visit_at old c.args.visit.now in
-    let fact = sent P 0 (term_in P v.scope (term_of c.args.channel.now)) (term_in P v.scope (term_of c.args.message.now)) in
+    let fact = sent P v.phase (term_in P v.scope (term_of c.args.channel.now)) (term_in P v.scope (term_of c.args.message.now)) in
     subst (λ ds. NamesClause new (record { hypotheses = c.in_ok-hyps.hyps; diffs = ds; conclusion = fact_of c.in_ok-concl.concl }) (raw_clause v fact)) (sym c.new.ensures)
     (raw_named new c.in_ok-hyps.hyps (fact_of c.in_ok-concl.concl) v fact
     (subst (λ hs. NameFacts new hs v.hypotheses) (sym c.in_ok-hyps.ensures) (hypotheses_later old new c.args.visit.now c.sent_in.ensures.grows c.requires.visit)) c.in_ok-concl.ensures.names refl)

@@ -28,9 +28,9 @@ returns-clause-under g c =
     let pairs = c.args.binds.now.pairs in
     let s = resolved (seen old pairs) in
     let v = c.args.visit.now in
-    let made : Visit = record { scope = c.in-Some.scope; hypotheses = c.in-Some.hypotheses; messages = c.in_ok-messages-in-Some.messages; sessions = c.in_ok-messages-in-Some.sessions; next = v.next } in
+    let made : Visit = record { scope = c.in-Some.scope; hypotheses = c.in-Some.hypotheses; messages = c.in_ok-messages-in-Some.messages; sessions = c.in_ok-messages-in-Some.sessions; next = v.next; phase = v.phase } in
     let parts = rw c.in-Some.is at c.in_ok-known_under.ensures.under in
-    visit_under_named old mid new s v made c.requires.visit c.past_under.ensures.grows c.requires.below refl parts
+    visit_under_named old mid new s v made c.requires.visit c.past_under.ensures.grows c.requires.below refl refl parts
     (subst (λ l. NameTerms new made.messages l) (terms_same old mid pairs c.known_under.ensures.grows c.requires.ready v.messages c.requires.visit.messages) c.in_ok-messages-in-Some.ensures.messages)
     (subst (λ l. NameTerms new made.sessions l) (terms_same old mid pairs c.known_under.ensures.grows c.requires.ready v.sessions c.requires.visit.sessions) c.in_ok-messages-in-Some.ensures.sessions)
     (NameFacts-grows mid new made.hypotheses (map (fact_under s) (map (fact_at old) v.hypotheses)) c.past_under.ensures.grows parts.hypotheses)

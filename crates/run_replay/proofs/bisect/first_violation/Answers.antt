@@ -3,7 +3,7 @@ use Rattle.std.proofs.lemmas.List.{take-map}
 use Rattle.pi_model.specs.Steps.{step_of}
 use Rattle.pi_tree.specs.Protocols.{protocol_of}
 use Rattle.run_replay.specs.Reached.{IsDoneSomewhere, TellsViolation}
-use Rattle.run_replay.proofs.Violations.{always_stay, IsBetween-true, IsBetween-false, IsBetween-end, front_somewhere}
+use Rattle.run_replay.proofs.Violations.{IsBetween-true, IsBetween-false, IsBetween-end, front_somewhere}
 use Rattle.std.proofs.lemmas.Grind.{common_steps}
 use Rattle.run_replay.proofs.bisect.first_violation.Goals as goal
 
@@ -25,7 +25,7 @@ loop-low-preserved c =
     let told = subst (TellsViolation (protocol_of c.args.protocol.now) (map step_of (take middle c.args.steps.now)) c.args.query) c.if-branch.false c.in_ok-violated_after.ensures in
     let front = subst (λ steps. TellsViolation (protocol_of c.args.protocol.now) steps c.args.query false) (sym (take-map step_of middle c.args.steps.now)) told in
     IsBetween-false (protocol_of c.args.protocol.now) (map step_of c.args.steps.now) c.args.query c.loop-low.low c.loop-low.high middle
-    (always_stay c.args.protocol.now (c.steps_only_add.ensures.violated (protocol_of c.args.protocol.now))) c.requires.done c.loop-low.invariant (omega arith) (omega arith) front
+    (λ q found. (c.steps_only_add.ensures.violated (protocol_of c.args.protocol.now) q, c.requires.still_open q found)) c.requires.done c.loop-low.invariant (omega arith) (omega arith) front
 
 pub returns : goal.returns
 returns c = IsBetween-end _ _ _ _ _ c.loop-low.invariant c.loop-low-test.false

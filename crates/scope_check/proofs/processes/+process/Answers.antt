@@ -12,6 +12,33 @@ choice-returns-in_err-done t c = grind (arith, common_steps)
 pub choice-returns : goal.choice-returns
 choice-returns t c = grind (arith, common_steps)
 
+pub retrieval-returns-in_err-rest : goal.retrieval-returns-in_err-rest
+retrieval-returns-in_err-rest t c = grind (arith, common_steps)
+
+pub retrieval-returns-in_err-done : goal.retrieval-returns-in_err-done
+retrieval-returns-in_err-done t c = grind (arith, common_steps)
+
+pub retrieval-returns : goal.retrieval-returns
+retrieval-returns t c = grind (arith, common_steps)
+
+pub retrieval-process-requires : goal.retrieval-process-requires
+retrieval-process-requires t c = grind (arith, common_steps)
+
+pub retrieval-below-requires : goal.retrieval-below-requires
+retrieval-below-requires t c = grind (arith, common_steps)
+
+pub retrieval-continuation-requires : goal.retrieval-continuation-requires
+retrieval-continuation-requires t c = grind (arith, common_steps)
+
+pub insertion-returns : goal.insertion-returns
+insertion-returns t c = grind (arith, common_steps)
+
+pub insertion-continuation-requires : goal.insertion-continuation-requires
+insertion-continuation-requires t c = grind (arith, common_steps)
+
+pub at_point-returns-in-Get : goal.at_point-returns-in-Get
+at_point-returns-in-Get t c = grind (arith, common_steps)
+
 pub comparison-returns : goal.comparison-returns
 comparison-returns t c = grind (arith, common_steps)
 
@@ -23,6 +50,9 @@ input-returns t c = grind (arith, common_steps)
 
 pub happening-returns : goal.happening-returns
 happening-returns t c = grind (arith, common_steps)
+
+pub waiting-returns : goal.waiting-returns
+waiting-returns t c = grind (arith, common_steps)
 
 pub output-returns : goal.output-returns
 output-returns t c = grind (arith, common_steps)
@@ -50,6 +80,9 @@ input-continuation-requires t c = grind (arith, common_steps)
 
 pub happening-continuation-requires : goal.happening-continuation-requires
 happening-continuation-requires t c = grind (arith, common_steps)
+
+pub waiting-continuation-requires : goal.waiting-continuation-requires
+waiting-continuation-requires t c = grind (arith, common_steps)
 
 pub output-continuation-requires : goal.output-continuation-requires
 output-continuation-requires t c = grind (arith, common_steps)

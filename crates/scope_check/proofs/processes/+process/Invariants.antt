@@ -28,6 +28,15 @@ decreases-input l = 2 * (macros_weight l.site.now.macros.now + next_weight (next
 abbrev pub decreases-happening : goal.decreases-happening
 decreases-happening l = 2 * (macros_weight l.site.now.macros.now + next_weight (next_of l.next.now)) + 5
 
+abbrev pub decreases-waiting : goal.decreases-waiting
+decreases-waiting l = 2 * (macros_weight l.site.now.macros.now + next_weight (next_of l.next.now)) + 5
+
+abbrev pub decreases-insertion : goal.decreases-insertion
+decreases-insertion l = 2 * (macros_weight l.site.now.macros.now + next_weight (next_of l.next.now)) + 5
+
+abbrev pub decreases-retrieval : goal.decreases-retrieval
+decreases-retrieval l = 2 * (macros_weight l.site.now.macros.now + unit_weight (unit_of l.branches.now.unit.now) + next_weight (next_of l.branches.now.otherwise.now)) + 5
+
 abbrev pub decreases-choice : goal.decreases-choice
 decreases-choice l = 2 * (macros_weight l.site.now.macros.now + unit_weight (unit_of l.branches.now.unit.now) + next_weight (next_of l.branches.now.otherwise.now)) + 5
 

@@ -14,7 +14,7 @@ returns-in-Par-clause-seen t c = λ before is.
     c.look_for-seen.ensures.behind
     (c.look_for-in-Par.ensures.seen (before ++ rules.points_of c.args.word.now (c.args.point + 1) (nodes (process_of c.deref-in-Par.result.now))) (c.look_for-seen.ensures.seen before is)) in
     parts ∙ ap (λ (points : List ℕ). summary (before ++ points))
-    (parts_of c.args.word.now c.args.point c.args.process.now c.in-Par.left c.in-Par.right c.deref-in-Par.result.now c.deref-in-Par-2.result.now c.in-Par.is c.deref-in-Par.ensures c.deref-in-Par-2.ensures)
+    (parts_of c.args.word.now c.args.point c.args.process.now c.in-Par.left c.in-Par.right c.deref-in-Par.result.now c.deref-in-Par-2.result.now c.deref-in-Par.ensures c.deref-in-Par-2.ensures c.in-Par.is)
 
 pub returns-in-Par-clause-behind : goal.returns-in-Par-clause-behind
 returns-in-Par-clause-behind t c = grind (arith, common_steps)

@@ -18,6 +18,9 @@ returns-in-Reduc-clause-read c = grind (arith, common_steps)
 pub returns-in-Event-clause-read : goal.returns-in-Event-clause-read
 returns-in-Event-clause-read c = grind (arith, common_steps)
 
+pub returns-in-Table-clause-read : goal.returns-in-Table-clause-read
+returns-in-Table-clause-read c = grind (arith, common_steps)
+
 pub returns-in-Query-clause-read : goal.returns-in-Query-clause-read
 returns-in-Query-clause-read c = grind (arith, common_steps)
 

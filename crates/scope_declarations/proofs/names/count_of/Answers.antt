@@ -12,5 +12,8 @@ overflow_add-result-3 c = grind (arith, common_steps)
 pub overflow_add-result-4 : goal.overflow_add-result-4
 overflow_add-result-4 c = grind (arith, common_steps)
 
+pub overflow_add-result-5 : goal.overflow_add-result-5
+overflow_add-result-5 c = grind (arith, common_steps)
+
 pub returns : goal.returns
 returns c = grind (arith, common_steps)

@@ -14,7 +14,11 @@ use Rattle.verifier_cli.specs.ReportReading.{report_not_read, IsNoReport, IsUnre
 use Rattle.verifier_cli.specs.SeenOutcome.{outcome_of}
 use Rattle.verifier_cli.proofs.Checking.{fault_unread}
 use Rattle.verifier_cli.proofs.Files.{no_report, of_all}
+use Rattle.verifier_cli.proofs.Limits.{few_names}
 use Rattle.verifier_cli.proofs.check.load_claims.Goals as goal
+
+pub read_shared_report-requires : goal.read_shared_report-requires
+read_shared_report-requires g c = few_names (protocol_of c.args.protocol.now) c.requires.limits
 
 pub returns-in-Ok-read_shared_report-clause-each : goal.returns-in-Ok-read_shared_report-clause-each
 returns-in-Ok-read_shared_report-clause-each g c = sym (length-map c.in-Ok-read_shared_report.claims shared_claim_of) ∙ c.in-Ok-read_shared_report.ensures.spelled.all

@@ -15,5 +15,8 @@ returns-in-Dtor c = grind (arith, common_steps)
 pub returns-in-Event : goal.returns-in-Event
 returns-in-Event c = grind (arith, common_steps)
 
+pub returns-in-Table : goal.returns-in-Table
+returns-in-Table c = grind (arith, common_steps)
+
 pub returns-in-Query : goal.returns-in-Query
 returns-in-Query c = grind (arith, common_steps)

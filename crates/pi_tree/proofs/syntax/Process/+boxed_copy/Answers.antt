@@ -23,3 +23,9 @@ returns-in_ok-otherwise-in-Let t c = grind (arith, common_steps)
 
 pub returns-in_ok-atom-in-Event : goal.returns-in_ok-atom-in-Event
 returns-in_ok-atom-in-Event t c = grind (arith, common_steps)
+
+pub returns-in_ok-next-in-Phase : goal.returns-in_ok-next-in-Phase
+returns-in_ok-next-in-Phase t c = grind (arith, common_steps)
+
+pub returns-in_ok-arguments-in-Insert : goal.returns-in_ok-arguments-in-Insert
+returns-in_ok-arguments-in-Insert t c = grind (arith, common_steps)

@@ -8,3 +8,6 @@ returns-in-Par t c = grind (arith, common_steps)
 
 pub returns-in-Let : goal.returns-in-Let
 returns-in-Let t c = grind (arith, common_steps)
+
+pub returns-in-Get : goal.returns-in-Get
+returns-in-Get t c = grind (arith, common_steps)

@@ -21,7 +21,7 @@ returns-clause-kept c =
     let takes : arity ≡ d.arity = search rules in
     let flag : is_data ≡ d.is_data = search rules in
     let spelled : c.deref.result.now ≡ d.word = search rules in
-    let behind : Names = record { frees = c.args.self.now.frees; ctors = c.append.new.list; dtors = c.args.self.now.dtors; events = c.args.self.now.events; macros = c.args.self.now.macros; meanings = c.enter.new.meanings } in
+    let behind : Names = record { frees = c.args.self.now.frees; ctors = c.append.new.list; dtors = c.args.self.now.dtors; events = c.args.self.now.events; tables = c.args.self.now.tables; macros = c.args.self.now.macros; meanings = c.enter.new.meanings } in
     kept_more text c.args.self.now behind (with_constructor names d) d.word c.deref.result.now (Constructor c.number_behind.result arity is_data) c.args.self.now.meanings
     (one_more_constructor names behind.ctors d c.in_ok-append.ensures) (omega (arith, c.requires))
     spelled refl c.in_ok-enter.ensures kept

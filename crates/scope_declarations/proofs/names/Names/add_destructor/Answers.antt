@@ -18,7 +18,7 @@ returns-clause-kept c =
     let f = c.args.found in
     let d = destructor_of f in
     let spelled : c.deref.result.now ≡ d.word = search rules in
-    let behind : Names = record { frees = c.args.self.now.frees; ctors = c.args.self.now.ctors; dtors = c.append_destructor.new.list; events = c.args.self.now.events; macros = c.args.self.now.macros; meanings = c.enter.new.meanings } in
+    let behind : Names = record { frees = c.args.self.now.frees; ctors = c.args.self.now.ctors; dtors = c.append_destructor.new.list; events = c.args.self.now.events; tables = c.args.self.now.tables; macros = c.args.self.now.macros; meanings = c.enter.new.meanings } in
     kept_more text c.args.self.now behind (with_destructor names d) d.word c.deref.result.now (Destructor c.destructor_behind.result c.arity_of.result) c.args.self.now.meanings
     (one_more_destructor names behind.dtors d c.in_ok-append_destructor.ensures) (omega (arith, c.requires))
     spelled refl c.in_ok-enter.ensures kept

@@ -20,7 +20,7 @@ returns-clause-kept c =
     let d = declared_of c.args.found in
     let takes : arity ≡ d.arity = ap (λ (x : Declared). x.arity) c.found.view_is in
     let spelled : c.deref.result.now ≡ d.word = search rules in
-    let behind : Names = record { frees = c.args.self.now.frees; ctors = c.args.self.now.ctors; dtors = c.args.self.now.dtors; events = c.append.new.list; macros = c.args.self.now.macros; meanings = c.enter.new.meanings } in
+    let behind : Names = record { frees = c.args.self.now.frees; ctors = c.args.self.now.ctors; dtors = c.args.self.now.dtors; events = c.append.new.list; tables = c.args.self.now.tables; macros = c.args.self.now.macros; meanings = c.enter.new.meanings } in
     kept_more text c.args.self.now behind (with_event names d) d.word c.deref.result.now (Event c.number_behind.result arity) c.args.self.now.meanings
     (one_more_event names behind.events d c.in_ok-append.ensures) (omega (arith, c.requires))
     spelled refl c.in_ok-enter.ensures kept

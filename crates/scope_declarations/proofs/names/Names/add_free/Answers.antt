@@ -17,7 +17,7 @@ returns-clause-kept c =
     let names = names_of c.args.self.now in
     let d = declared_of c.args.free in
     let spelled : c.deref.result.now ≡ d.word = search rules in
-    let behind : Names = record { frees = c.append.new.list; ctors = c.args.self.now.ctors; dtors = c.args.self.now.dtors; events = c.args.self.now.events; macros = c.args.self.now.macros; meanings = c.enter.new.meanings } in
+    let behind : Names = record { frees = c.append.new.list; ctors = c.args.self.now.ctors; dtors = c.args.self.now.dtors; events = c.args.self.now.events; tables = c.args.self.now.tables; macros = c.args.self.now.macros; meanings = c.enter.new.meanings } in
     kept_more text c.args.self.now behind (with_free names d) d.word c.deref.result.now (Free c.number_behind.result) c.args.self.now.meanings
     (one_more_free names behind.frees d c.in_ok-append.ensures) (omega (arith, c.requires))
     spelled refl c.in_ok-enter.ensures kept

@@ -1,7 +1,0 @@
-use Rattle.std.proofs.Common.{arith}
-use Rattle.std.proofs.lemmas.Grind.{common_steps}
-use Rattle.pi_configurations.proofs.Searching.{of_items}
-use Rattle.pi_configurations.proofs.alternatives.event_at.Goals as goal
-
-pub index-requires : goal.index-requires
-index-requires c = grind (arith, common_steps, of_items)

@@ -1,7 +1,0 @@
-use Rattle.std.proofs.Common.{arith}
-use Rattle.std.proofs.lemmas.Grind.{common_steps}
-use Rattle.pi_configurations.proofs.Searching.{of_search}
-use Rattle.pi_configurations.proofs.alternatives.precedes.Goals as goal
-
-pub returns : goal.returns
-returns c = grind (arith, common_steps, of_search)

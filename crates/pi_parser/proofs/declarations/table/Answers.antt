@@ -1,0 +1,7 @@
+-- What its parts give, the declaration gives.
+use Rattle.std.proofs.Common.{arith}
+use Rattle.std.proofs.lemmas.Grind.{common_steps}
+use Rattle.pi_parser.proofs.declarations.table.Goals as goal
+
+pub returns-clause-read : goal.returns-clause-read
+returns-clause-read c = grind (arith, common_steps)

@@ -1,0 +1,35 @@
+use Rattle.std.proofs.Common.{sym, ◌∙◌}
+use Rattle.process_visits.specs.Places.{protocol_at}
+use Rattle.process_visits.specs.Forms.{insert_raw, are_large_in}
+use Rattle.process_visits.specs.Visits.{visit_at}
+use Rattle.process_visits.proofs.Adding.{is_added, is_told}
+use Rattle.term_tree.proofs.BankLaws.{Grows_trans, Grows_refl}
+use Rattle.process_visits.proofs.inserts.add_insert.Goals as goal
+
+pub returns-clause-large : goal.returns-clause-large
+returns-clause-large g c =
+    let old = g.B.Bank.trees c.args.bank.now in
+    let mid = g.B.Bank.trees c.insert_clause.new.bank in
+    let P = protocol_at c.args.place.now in
+    let v = visit_at old c.args.visit.now in
+    let insert = c.args.insert.now in
+    is_told c.add.result mid (g.B.Bank.trees c.add.new.bank) c.args.listing.now c.add.new.self c.in_ok-raw.raw (insert_raw P v insert.table insert.arguments.now) c.in_ok-raw.ensures.names c.add.ensures.adds c.add.ensures.small
+    (are_large_in P v.scope insert.arguments.now) (sym c.some_large_term.ensures ∙ c.if-some_large_term.false)
+
+pub returns-clause-adds : goal.returns-clause-adds
+returns-clause-adds g c =
+    let old = g.B.Bank.trees c.args.bank.now in
+    let mid = g.B.Bank.trees c.insert_clause.new.bank in
+    let P = protocol_at c.args.place.now in
+    let v = visit_at old c.args.visit.now in
+    let insert = c.args.insert.now in
+    is_added c.add.result mid (g.B.Bank.trees c.add.new.bank) c.args.listing.now c.add.new.self c.in_ok-raw.raw (insert_raw P v insert.table insert.arguments.now) c.in_ok-raw.ensures.names c.add.ensures.adds c.add.ensures.small
+
+pub returns-clause-grows : goal.returns-clause-grows
+returns-clause-grows g c = Grows_trans (g.B.Bank.trees c.args.bank.now) (g.B.Bank.trees c.insert_clause.new.bank) (g.B.Bank.trees c.add.new.bank) c.insert_clause.ensures.grows c.add.ensures.grows
+
+pub returns-then-some_large_term-clause-adds : goal.returns-then-some_large_term-clause-adds
+returns-then-some_large_term-clause-adds g c = λ same. cc
+
+pub returns-then-some_large_term-clause-grows : goal.returns-then-some_large_term-clause-grows
+returns-then-some_large_term-clause-grows g c = Grows_refl (g.B.Bank.trees c.args.bank.now)

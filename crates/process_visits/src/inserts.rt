@@ -1,0 +1,78 @@
+//! Entries that are written: the clause that the table may have them.
+
+ghost use Rattle.std.specs.Prelude.{◌≡◌, true, false, IfOk, MatchBool};
+ghost use Rattle.std.specs.List.{AllByRecursion};
+ghost use Rattle.spec_clauses.specs.Norm.{norms};
+ghost use Rattle.term_tree.specs.Bank.{Grows};
+ghost use Rattle.clause_form.specs.Seen.{NamesClause};
+ghost use Rattle.clause_terms.specs.Conditions.{HasShortTuples};
+ghost use Rattle.process_visits.specs.Forms.{Adds, insert_raw, is_large_insert};
+ghost use Rattle.process_visits.specs.Places.{protocol_at};
+ghost use Rattle.process_visits.specs.Visits.{visit_at, IsVisitIn};
+
+use crate::forms::Insert;
+use crate::large::some_large_term;
+use crate::listing::Listing;
+use crate::place::Place;
+use crate::visit::Visit;
+use clause_form::{Clause, Diffs, Fact};
+use clause_terms::terms_in;
+use std::alloc::AllocError;
+use term_tree::Bank;
+
+/// The raw clause of an `insert`. On `Err` the bank may have grown.
+fn insert_clause<B: Bank>(
+    place: &Place<'_>,
+    bank: &mut B,
+    visit: &Visit,
+    insert: &Insert<'_>,
+) -> Result<Clause, AllocError>
+    requires visit { IsVisitIn (B.trees bank.old) visit.now }
+    requires short { AllByRecursion HasShortTuples insert.now.arguments.now }
+    ensures grows { Grows (B.trees bank.old) (B.trees bank.new) }
+    ensures names { IfOk result (λ raw. NamesClause (B.trees bank.new) raw
+        (insert_raw (protocol_at place.now) (visit_at (B.trees bank.old) visit.now)
+        insert.now.table insert.now.arguments.now)) }
+{
+    let hyps = visit.hypotheses.copy(place.alloc)?;
+    let arguments = terms_in(
+        place.alloc,
+        bank,
+        place.protocol,
+        &visit.scope,
+        insert.arguments,
+    )?;
+    Ok(Clause {
+        hyps,
+        diffs: Diffs::new(place.alloc),
+        concl: Fact::Tab(insert.table, arguments),
+    })
+}
+
+/// Adds what an `insert` adds, unless it is too large, and tells whether it did. On `Err` the bank may have grown.
+pub fn add_insert<B: Bank>(
+    place: &Place<'_>,
+    bank: &mut B,
+    listing: &mut Listing,
+    visit: &Visit,
+    insert: &Insert<'_>,
+) -> Result<bool, AllocError>
+    requires visit { IsVisitIn (B.trees bank.old) visit.now }
+    requires short { AllByRecursion HasShortTuples insert.now.arguments.now }
+    ensures grows { Grows (B.trees bank.old) (B.trees bank.new) }
+    ensures large { IfOk result (λ added. MatchBool added
+        (is_large_insert (protocol_at place.now) (visit_at (B.trees bank.old) visit.now)
+        insert.now.table insert.now.arguments.now ≡ false)
+        (is_large_insert (protocol_at place.now) (visit_at (B.trees bank.old) visit.now)
+        insert.now.table insert.now.arguments.now ≡ true)) }
+    ensures adds { IfOk result (λ added. added ≡ true
+        → Adds (B.trees bank.new) listing.old listing.new
+        (norms (insert_raw (protocol_at place.now) (visit_at (B.trees bank.old) visit.now)
+        insert.now.table insert.now.arguments.now))) }
+{
+    if some_large_term(place, bank, &visit.scope, insert.arguments) {
+        return Ok(false);
+    }
+    let raw = insert_clause(place, bank, visit, insert)?;
+    listing.add(place.alloc, bank, raw)
+}

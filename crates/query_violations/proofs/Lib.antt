@@ -1,0 +1,4 @@
+pub mod Deciding
+pub mod Picking
+pub mod Searching
+pub mod Choosing

@@ -1,0 +1,2 @@
+pub mod Correspondences
+pub mod Alternatives

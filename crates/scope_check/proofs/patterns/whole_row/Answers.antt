@@ -1,0 +1,7 @@
+-- What a whole row binds.
+use Rattle.std.proofs.Common.{arith}
+use Rattle.std.proofs.lemmas.Grind.{common_steps}
+use Rattle.scope_check.proofs.patterns.whole_row.Goals as goal
+
+pub returns-clause-read : goal.returns-clause-read
+returns-clause-read c = grind (arith, common_steps)
