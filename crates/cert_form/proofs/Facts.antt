@@ -1,8 +1,8 @@
--- The texts of terms, hypotheses and clauses are written one by one, whatever the way in which terms are written.
-use Rattle.std.proofs.Common.{◌≡◌, ℕ, zero, suc, ◌+◌, ◌<◌, ◌≤◌, Bool, List, [], ◌∷◌, ◌++◌, length, map, get_or, refl, sym, ◌∙◌, ap, subst, arith}
+-- The texts of terms, hypotheses, constraints and clauses are written one by one, whatever the way in which terms are written.
+use Rattle.std.proofs.Common.{◌≡◌, ℕ, zero, suc, ◌+◌, ◌<◌, ◌≤◌, Bool, ◌||◌, List, [], ◌∷◌, ◌++◌, length, map, get_or, refl, sym, ◌∙◌, ap, subst}
 use Rattle.std.specs.Prelude.{codes, flat_map}
-use Rattle.std.proofs.lemmas.List.{append-nil}
-use Rattle.std.proofs.lemmas.Grind.{flat_map-append}
+use Rattle.std.proofs.lemmas.List.{append_assoc}
+use Rattle.std.proofs.lemmas.Simd.{map-map}
 use Rattle.spec_calculus.specs.Syntax.{Protocol}
 use Rattle.spec_terms.specs.Term.{Term}
 use Rattle.spec_clauses.specs.Diff.{Diff}
@@ -11,15 +11,18 @@ use Rattle.clause_diffs.specs.declared.plain.Tree.{Tree}
 use Rattle.clause_form.specs.declared.plain.PlainFact.{PlainFact}
 use Rattle.clause_form.specs.Plain.{term_of}
 use Rattle.clause_form.specs.PlainFacts.{plain_fact_of}
+use Rattle.spec_certificate_text.specs.Sides.{SidesOf, sides_in_order, spelled_diff, spelled_clause}
 use Rattle.spec_certificate_text.specs.Text.{phase_text}
-use Rattle.spec_node_tables.specs.Table.{facts_in_order, terms_in_order}
-use Rattle.spec_node_tables.specs.Text.{terms_text, word_over, event_over, entry_over, fact_over, hypotheses_over, clause_over, clause_lines_over}
+use Rattle.spec_node_tables.specs.Table.{spelled_terms, terms_in_order}
+use Rattle.spec_node_tables.specs.Text.{terms_text, word_over, event_over, entry_over, fact_over, sides_over, hypotheses_over, clause_over, clause_lines_over}
 use Rattle.cert_form.specs.Appends.{Appends}
-use Rattle.cert_form.specs.Parts.{is_alone, word_opening, word_closing, comma_at, gap_at, gap_behind}
-use Rattle.cert_form.specs.Remaining.{terms_from, hypotheses_from, clauses_from}
+use Rattle.cert_form.specs.Parts.{is_alone, word_opening, word_closing, comma_at, gap_at}
+use Rattle.cert_form.specs.Premises.{gap_behind, space_where, are_any, hypotheses_from, diffs_from, hypotheses_alone, diffs_alone, premise_terms}
+use Rattle.cert_form.specs.Remaining.{terms_from, clauses_from}
 use Rattle.cert_form.specs.Writing.{Writes}
+use Rattle.cert_form.proofs.Premises.{premises_text}
 use Rattle.cert_form.proofs.Items.{nothing, GoesOn}
-use Rattle.cert_form.proofs.TermTexts.{One, single, bytes_then, between, and_then, written_as, HasWritten, one_written, all_written}
+use Rattle.cert_form.proofs.TermTexts.{One, single, flat_map-map, bytes_then, then_bytes, between, and_then, written_as, HasWritten, one_written, all_written}
 
 -- What goes on as it begins.
 
@@ -30,16 +33,24 @@ terms_go_on P o = record { is = λ n t ts rest. cases n t ts rest } where
   cases (suc n) t ts rest = refl
 
 hypotheses_go_on : (P : Protocol) (o : One) → GoesOn (hypotheses_from o P) (λ n f rest. gap_at n (fact_over o P f rest))
-hypotheses_go_on P o = record { is = λ n f fs rest. cases n f fs rest } where
-  cases : (n : ℕ) (f : Fact Term) (fs : List (Fact Term)) (rest : List ℕ) → hypotheses_from o P n (f ∷ fs) rest ≡ gap_at n (fact_over o P f (hypotheses_from o P (suc n) fs rest))
-  cases zero f fs rest = refl
-  cases (suc n) f fs rest = refl
+hypotheses_go_on P o = record { is = λ n f fs rest. refl }
+
+diffs_go_on : (P : Protocol) (o : One) (b : Bool) → GoesOn (diffs_from o P b) (λ n d rest. gap_behind b n (sides_over o P (spelled_diff d) rest))
+diffs_go_on P o b = record { is = λ n d ds rest. refl }
 
 clauses_go_on : (P : Protocol) (o : One) → GoesOn (clauses_from o P) (λ n c rest. 99 ∷ 32 ∷ clause_over o P c (10 ∷ rest))
 clauses_go_on P o = record { is = λ n c cs rest. refl }
 
+same_items : {X : Type 0} (xs : List X) → map (λ x. x) xs ≡ xs
+same_items [] = refl
+same_items (x ∷ xs) = ap (λ l. x ∷ l) (same_items xs)
+
 abbrev pub clause_of : List (Fact Term) → List Diff → Fact Term → Clause Term
-clause_of hyps diffs concl = record { hypotheses = hyps; diffs = diffs; conclusion = concl }
+clause_of hyps ds concl = record { hypotheses = hyps; diffs = ds; conclusion = concl }
+
+-- the terms of constraints as they are written
+abbrev pub sides_of : List Diff → List Term
+sides_of ds = flat_map (λ d. sides_in_order (spelled_diff d)) ds
 
 module _ (kept_of : List Term → List Term) (all_one : Protocol → List Term → One) (P : Protocol) where
   abbrev pub one : List Term → One
@@ -117,43 +128,75 @@ module _ (kept_of : List Term → List Term) (all_one : Protocol → List Term �
       one_written kept_of one plain_fact_of terms_of (λ o. hypotheses_from o P) (λ o m f rest. gap_at m (fact_over o P f rest)) (hypotheses_go_on P) fs items n x kept now next start before after are has below is
       (bytes_then kept_of one (gap_at n) (terms_of (plain_fact_of x)) (λ o. fact_over o P (plain_fact_of x)) now next before middle after gap text)
 
-  pub hypotheses_written : (fs : List (Fact Term)) (items : List PlainFact) (n m : ℕ) (kept now : List Term) (start listed after : List ℕ) → map plain_fact_of items ≡ fs → HypothesesWritten n fs items kept now start listed → length items ≤ n → n ≤ length items → m ≡ length items → Appends (gap_behind m) listed after
-      → Writes kept_of one (flat_map terms_of fs) (λ o. hypotheses_over o P fs) kept now start after
-  hypotheses_written fs items n m kept now start listed after are has past within is gap =
-      let same : m ≡ n = omega arith in
-      all_written kept_of one plain_fact_of terms_of (λ o. hypotheses_from o P) gap_behind ends fs items n kept now start listed after are has past (subst (λ k. Appends (gap_behind k) listed after) same gap)
-    where
-      ends : (o : One) (k : ℕ) (rest : List ℕ) → hypotheses_from o P k [] rest ≡ gap_behind k rest
-      ends o zero rest = refl
-      ends o (suc k) rest = refl
+  pub hypotheses_written : (fs : List (Fact Term)) (items : List PlainFact) (n : ℕ) (kept now : List Term) (start after : List ℕ) → map plain_fact_of items ≡ fs → HypothesesWritten n fs items kept now start after → length items ≤ n
+      → Writes kept_of one (flat_map terms_of fs) (λ o. hypotheses_alone o P fs) kept now start after
+  hypotheses_written fs items n kept now start after are has past =
+      all_written kept_of one plain_fact_of terms_of (λ o. hypotheses_from o P) (λ m rest. rest) (λ o m rest. refl) fs items n kept now start after after are has past (nothing after)
+
+  -- Constraints.
+
+  -- the sides between what stands round them
+  pub sides_written : (left right : List Term) (k m l : List Term) (a b c d e g : List ℕ) → Appends (λ rest. codes "diff(" ++ rest) a b → Writes kept_of one left (λ o. terms_text o P left) k m b c → Appends (λ rest. codes ";" ++ rest) c d → Writes kept_of one right (λ o. terms_text o P right) m l d e → Appends (λ rest. codes ")" ++ rest) e g
+      → Writes kept_of one (left ++ right) (λ o. sides_over o P (record { left = left; right = right })) k l a g
+  sides_written left right k m l a b c d e g opening first semicolon second closing =
+      between kept_of one (λ rest. codes "diff(" ++ rest) (left ++ right) (λ o rest. terms_text o P left (codes ";" ++ terms_text o P right rest)) (λ rest. codes ")" ++ rest) k l a b e g opening
+      (and_then kept_of one left right (λ o. terms_text o P left) (λ o rest. codes ";" ++ terms_text o P right rest) k m l b c e first
+      (bytes_then kept_of one (λ rest. codes ";" ++ rest) right (λ o. terms_text o P right) m l c d e semicolon second)) closing
+
+  pub diff_spelled : (s : SidesOf Term) (d : Diff) (k l : List Term) (a b : List ℕ) → s ≡ spelled_diff d → Writes kept_of one (sides_in_order s) (λ o. sides_over o P s) k l a b → Writes kept_of one (sides_in_order (spelled_diff d)) (λ o. sides_over o P (spelled_diff d)) k l a b
+  diff_spelled s d k l a b is written = subst (λ t. Writes kept_of one (sides_in_order t) (λ o. sides_over o P t) k l a b) is written
+
+  abbrev pub DiffsWritten : Bool → ℕ → List Diff → List Diff → List Term → List Term → List ℕ → List ℕ → Type 0
+  DiffsWritten b = HasWritten kept_of one (λ d. d) (λ d. sides_in_order (spelled_diff d)) (λ o. diffs_from o P b)
+
+  pub diff_written : (b : Bool) (ds items : List Diff) (n : ℕ) (x : Diff) (kept now next : List Term) (start before middle after : List ℕ) → items ≡ ds → DiffsWritten b n ds items kept now start before → n < length items → x ≡ get_or items n x → Appends (gap_behind b n) before middle
+      → Writes kept_of one (sides_in_order (spelled_diff x)) (λ o. sides_over o P (spelled_diff x)) now next middle after → DiffsWritten b (n + 1) ds items kept next start after
+  diff_written b ds items n x kept now next start before middle after are has below is gap text =
+      one_written kept_of one (λ d. d) (λ d. sides_in_order (spelled_diff d)) (λ o. diffs_from o P b) (λ o m d rest. gap_behind b m (sides_over o P (spelled_diff d) rest)) (λ o. diffs_go_on P o b) ds items n x kept now next start before after (same_items items ∙ are) has below is
+      (bytes_then kept_of one (gap_behind b n) (sides_in_order (spelled_diff x)) (λ o. sides_over o P (spelled_diff x)) now next before middle after gap text)
+
+  pub diffs_written : (b : Bool) (ds items : List Diff) (n : ℕ) (kept now : List Term) (start after : List ℕ) → items ≡ ds → DiffsWritten b n ds items kept now start after → length items ≤ n → Writes kept_of one (sides_of ds) (λ o. diffs_alone o P b ds) kept now start after
+  diffs_written b ds items n kept now start after are has past =
+      all_written kept_of one (λ d. d) (λ d. sides_in_order (spelled_diff d)) (λ o. diffs_from o P b) (λ m rest. rest) (λ o m rest. refl) ds items n kept now start after after (same_items items ∙ are) has past (nothing after)
 
   -- Clauses.
 
-  pub clause_written : (c : Clause Term) (hyps : List (Fact Term)) (diffs : List Diff) (concl : Fact Term) (kept middle now : List Term) (start listed marked after : List ℕ) → clause_of hyps diffs concl ≡ c → Writes kept_of one (flat_map terms_of hyps) (λ o. hypotheses_over o P hyps) kept middle start listed → Appends (λ rest. codes "=> " ++ rest) listed marked
-      → Writes kept_of one (terms_of concl) (λ o. fact_over o P concl) middle now marked after → Writes kept_of one (flat_map terms_of (facts_in_order c)) (λ o. clause_over o P c) kept now start after
-  clause_written c hyps diffs concl kept middle now start listed marked after is hypotheses arrow conclusion =
-      let terms : flat_map terms_of hyps ++ terms_of concl ≡ flat_map terms_of (hyps ++ (concl ∷ [])) =
-      ap (λ l. flat_map terms_of hyps ++ l) (sym (append-nil (terms_of concl))) ∙ sym (flat_map-append terms_of hyps (concl ∷ [])) in
-      subst (λ d. Writes kept_of one (flat_map terms_of (facts_in_order d)) (λ o. clause_over o P d) kept now start after) is
-      (written_as kept_of one (flat_map terms_of hyps ++ terms_of concl) (flat_map terms_of (hyps ++ (concl ∷ []))) (λ o. clause_over o P (clause_of hyps diffs concl)) (λ o. clause_over o P (clause_of hyps diffs concl)) kept now start after terms (λ o rest. refl)
-      (and_then kept_of one (flat_map terms_of hyps) (terms_of concl) (λ o. hypotheses_over o P hyps) (λ o rest. codes "=> " ++ fact_over o P concl rest) kept middle now start listed after hypotheses
-      (bytes_then kept_of one (λ rest. codes "=> " ++ rest) (terms_of concl) (λ o. fact_over o P concl) middle now listed marked after arrow conclusion)))
+  pub premises_written : (c : Clause Term) (hyps : List (Fact Term)) (ds : List Diff) (concl : Fact Term) (b wanted : Bool) (kept middle now : List Term) (start listed told after : List ℕ) → clause_of hyps ds concl ≡ c → b ≡ are_any hyps → wanted ≡ are_any hyps || are_any ds
+      → Writes kept_of one (flat_map terms_of hyps) (λ o. hypotheses_alone o P hyps) kept middle start listed → Writes kept_of one (sides_of ds) (λ o. diffs_alone o P b ds) middle now listed told → Appends (space_where wanted) told after
+      → Writes kept_of one (premise_terms c) (λ o. hypotheses_over o P c.hypotheses (map spelled_diff c.diffs)) kept now start after
+  premises_written c hyps ds concl b wanted kept middle now start listed told after is behind_is wanted_is hypotheses constraints space =
+      let ts = flat_map terms_of hyps ++ sides_of ds in
+      let told_so = subst (λ x. Writes kept_of one (sides_of ds) (λ o. diffs_alone o P x ds) middle now listed told) behind_is constraints in
+      let both = and_then kept_of one (flat_map terms_of hyps) (sides_of ds) (λ o. hypotheses_alone o P hyps) (λ o. diffs_alone o P (are_any hyps) ds) kept middle now start listed told hypotheses told_so in
+      let spaced = then_bytes kept_of one ts (λ o rest. hypotheses_alone o P hyps (diffs_alone o P (are_any hyps) ds rest)) (space_where (are_any hyps || are_any ds)) kept now start told after both (subst (λ x. Appends (space_where x) told after) wanted_is space) in
+      subst (λ d. Writes kept_of one (premise_terms d) (λ o. hypotheses_over o P d.hypotheses (map spelled_diff d.diffs)) kept now start after) is
+      (written_as kept_of one ts ts (λ o rest. hypotheses_alone o P hyps (diffs_alone o P (are_any hyps) ds (space_where (are_any hyps || are_any ds) rest))) (λ o. hypotheses_over o P hyps (map spelled_diff ds)) kept now start after refl (λ o rest. premises_text o P hyps ds rest) spaced)
+
+  pub clause_written : (c : Clause Term) (concl : Fact Term) (kept middle now : List Term) (start listed marked after : List ℕ) → concl ≡ c.conclusion → Writes kept_of one (premise_terms c) (λ o. hypotheses_over o P c.hypotheses (map spelled_diff c.diffs)) kept middle start listed → Appends (λ rest. codes "=> " ++ rest) listed marked
+      → Writes kept_of one (terms_of concl) (λ o. fact_over o P concl) middle now marked after → Writes kept_of one (spelled_terms (spelled_clause c)) (λ o. clause_over o P (spelled_clause c)) kept now start after
+  clause_written c concl kept middle now start listed marked after is premises arrow conclusion =
+      let hyps = flat_map terms_of c.hypotheses in
+      let terms : premise_terms c ++ terms_of c.conclusion ≡ spelled_terms (spelled_clause c) =
+      append_assoc hyps (sides_of c.diffs) (terms_of c.conclusion) ∙ ap (λ l. hyps ++ (l ++ terms_of c.conclusion)) (flat_map-map spelled_diff sides_in_order c.diffs) in
+      let last = subst (λ f. Writes kept_of one (terms_of f) (λ o. fact_over o P f) middle now marked after) is conclusion in
+      written_as kept_of one (premise_terms c ++ terms_of c.conclusion) (spelled_terms (spelled_clause c)) (λ o. clause_over o P (spelled_clause c)) (λ o. clause_over o P (spelled_clause c)) kept now start after terms (λ o rest. refl)
+      (and_then kept_of one (premise_terms c) (terms_of c.conclusion) (λ o. hypotheses_over o P c.hypotheses (map spelled_diff c.diffs)) (λ o rest. codes "=> " ++ fact_over o P c.conclusion rest) kept middle now start listed after premises
+      (bytes_then kept_of one (λ rest. codes "=> " ++ rest) (terms_of c.conclusion) (λ o. fact_over o P c.conclusion) middle now listed marked after arrow last))
 
   abbrev pub ClausesWritten : {X : Type 0} → (X → Clause Term) → ℕ → List (Clause Term) → List X → List Term → List Term → List ℕ → List ℕ → Type 0
-  ClausesWritten held n cs items = HasWritten kept_of one held (λ c. flat_map terms_of (facts_in_order c)) (λ o. clauses_from o P) n cs items
+  ClausesWritten held n cs items = HasWritten kept_of one (λ x. spelled_clause (held x)) spelled_terms (λ o. clauses_from o P) n (map spelled_clause cs) items
+
+  all_spelled : {X : Type 0} (held : X → Clause Term) (items : List X) (cs : List (Clause Term)) → map held items ≡ cs → map (λ x. spelled_clause (held x)) items ≡ map spelled_clause cs
+  all_spelled held items cs are = sym (map-map spelled_clause held items) ∙ ap (map spelled_clause) are
 
   pub line_written : {X : Type 0} (held : X → Clause Term) (cs : List (Clause Term)) (items : List X) (n : ℕ) (x : X) (c : Clause Term) (kept now next : List Term) (start before opened listed after : List ℕ) → map held items ≡ cs → ClausesWritten held n cs items kept now start before → n < length items → x ≡ get_or items n x → c ≡ held x
-      → Appends (λ rest. codes "c " ++ rest) before opened → Writes kept_of one (flat_map terms_of (facts_in_order c)) (λ o. clause_over o P c) now next opened listed → Appends (λ rest. codes "\n" ++ rest) listed after → ClausesWritten held (n + 1) cs items kept next start after
+      → Appends (λ rest. codes "c " ++ rest) before opened → Writes kept_of one (spelled_terms (spelled_clause c)) (λ o. clause_over o P (spelled_clause c)) now next opened listed → Appends (λ rest. codes "\n" ++ rest) listed after → ClausesWritten held (n + 1) cs items kept next start after
   line_written held cs items n x c kept now next start before opened listed after are has below is seen opening text closing =
-      one_written kept_of one held (λ d. flat_map terms_of (facts_in_order d)) (λ o. clauses_from o P) (λ o m d rest. 99 ∷ 32 ∷ clause_over o P d (10 ∷ rest)) (clauses_go_on P) cs items n x kept now next start before after are has below is
-      (between kept_of one (λ rest. codes "c " ++ rest) (flat_map terms_of (facts_in_order (held x))) (λ o. clause_over o P (held x)) (λ rest. codes "\n" ++ rest) now next before opened listed after opening
-      (subst (λ (d : Clause Term). Writes kept_of one (flat_map terms_of (facts_in_order d)) (λ o. clause_over o P d) now next opened listed) seen text) closing)
+      one_written kept_of one (λ y. spelled_clause (held y)) spelled_terms (λ o. clauses_from o P) (λ o m d rest. 99 ∷ 32 ∷ clause_over o P d (10 ∷ rest)) (clauses_go_on P) (map spelled_clause cs) items n x kept now next start before after (all_spelled held items cs are) has below is
+      (between kept_of one (λ rest. codes "c " ++ rest) (spelled_terms (spelled_clause (held x))) (λ o. clause_over o P (spelled_clause (held x))) (λ rest. codes "\n" ++ rest) now next before opened listed after opening
+      (subst (λ (d : Clause Term). Writes kept_of one (spelled_terms (spelled_clause d)) (λ o. clause_over o P (spelled_clause d)) now next opened listed) seen text) closing)
 
-  pub lines_written : {X : Type 0} (held : X → Clause Term) (cs : List (Clause Term)) (items : List X) (n : ℕ) (kept now : List Term) (start after : List ℕ) → map held items ≡ cs → ClausesWritten held n cs items kept now start after → length items ≤ n → Writes kept_of one (terms_in_order cs) (λ o. clause_lines_over o P cs) kept now start after
+  pub lines_written : {X : Type 0} (held : X → Clause Term) (cs : List (Clause Term)) (items : List X) (n : ℕ) (kept now : List Term) (start after : List ℕ) → map held items ≡ cs → ClausesWritten held n cs items kept now start after → length items ≤ n → Writes kept_of one (terms_in_order cs) (λ o. clause_lines_over o P (map spelled_clause cs)) kept now start after
   lines_written held cs items n kept now start after are has past =
-      written_as kept_of one (flat_map (λ c. flat_map terms_of (facts_in_order c)) cs) (terms_in_order cs) (λ o. clause_lines_over o P cs) (λ o. clause_lines_over o P cs) kept now start after (nested cs) (λ o rest. refl)
-      (all_written kept_of one held (λ c. flat_map terms_of (facts_in_order c)) (λ o. clauses_from o P) (λ m rest. rest) (λ o m rest. refl) cs items n kept now start after after are has past (nothing after))
-    where
-      nested : (ds : List (Clause Term)) → flat_map (λ c. flat_map terms_of (facts_in_order c)) ds ≡ terms_in_order ds
-      nested [] = refl
-      nested (d ∷ ds) = ap (λ l. flat_map terms_of (facts_in_order d) ++ l) (nested ds) ∙ sym (flat_map-append terms_of (facts_in_order d) (flat_map facts_in_order ds))
+      written_as kept_of one (flat_map spelled_terms (map spelled_clause cs)) (terms_in_order cs) (λ o. clause_lines_over o P (map spelled_clause cs)) (λ o. clause_lines_over o P (map spelled_clause cs)) kept now start after (sym (flat_map-map spelled_clause spelled_terms cs)) (λ o rest. refl)
+      (all_written kept_of one (λ y. spelled_clause (held y)) spelled_terms (λ o. clauses_from o P) (λ m rest. rest) (λ o m rest. refl) (map spelled_clause cs) items n kept now start after after (all_spelled held items cs are) has past (nothing after))

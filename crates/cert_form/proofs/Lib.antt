@@ -1,7 +1,10 @@
 pub mod Naming
 pub mod Items
+pub mod Variables
+pub mod MovedSides
 pub mod Terms
 pub mod TermTexts
+pub mod Premises
 pub mod Facts
 pub mod Lines
 pub mod NodeLines

@@ -23,7 +23,7 @@ split_at g (y ∷ ys) zero x below is = ap (λ z. g z ++ flat_map g ys) (sym is)
 split_at g (y ∷ ys) (suc n) x below is =
     ap (λ l. g y ++ l) (split_at g ys n x (omega arith) is) ∙ sym (append_assoc (g y) (flat_map g (take n ys)) (g x ++ flat_map g (drop (suc n) ys)))
 
-flat_map-map : {A X : Type 0} (f : A → X) (g : X → List Term) (items : List A) → flat_map (λ x. g (f x)) items ≡ flat_map g (map f items)
+pub flat_map-map : {A X : Type 0} (f : A → X) (g : X → List Term) (items : List A) → flat_map (λ x. g (f x)) items ≡ flat_map g (map f items)
 flat_map-map f g [] = refl
 flat_map-map f g (y ∷ ys) = ap (λ l. g (f y) ++ l) (flat_map-map f g ys)
 

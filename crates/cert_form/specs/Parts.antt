@@ -49,8 +49,3 @@ comma_at (suc n) rest = 44 ∷ rest
 abbrev pub gap_at : ℕ → List ℕ → List ℕ
 gap_at zero rest = rest
 gap_at (suc n) rest = 44 ∷ 32 ∷ rest
-
--- what stands behind so many hypotheses: a space, unless there is none
-abbrev pub gap_behind : ℕ → List ℕ → List ℕ
-gap_behind zero rest = rest
-gap_behind (suc n) rest = 32 ∷ rest

@@ -2,8 +2,9 @@
 use Rattle.std.specs.Prelude.{◌≡◌, ℕ, nat_eq, ◌&&◌, cond, List, ◌++◌, map, codes}
 use Rattle.spec_calculus.specs.Syntax.{Protocol}
 use Rattle.spec_terms.specs.Term.{Term}
-use Rattle.spec_clauses.specs.Fact.{Clause, map_clause}
+use Rattle.spec_clauses.specs.Fact.{Clause}
 use Rattle.spec_certificates.specs.Certificate.{Certificate}
+use Rattle.spec_certificate_text.specs.Sides.{spelled_clause, map_spelled}
 use Rattle.spec_certificate_text.specs.Text.{clause_lines, certificate_text}
 use Rattle.spec_node_tables.specs.Table.{table, number_in}
 use Rattle.spec_node_tables.specs.Nodes.{node_of}
@@ -32,7 +33,7 @@ spelled_clauses P cs rest = codes "cert 1\n" ++ clause_lines P cs rest
 
 abbrev pub numbered_clauses : Protocol → List (Clause Term) → List ℕ → List ℕ
 numbered_clauses P cs rest = let ts = table cs in
-    codes "cert 2\n" ++ node_lines P (map (node_of ts) ts) (clause_lines_over number_text P (map (map_clause (number_in ts)) cs) rest)
+    codes "cert 2\n" ++ node_lines P (map (node_of ts) ts) (clause_lines_over number_text P (map (λ c. map_spelled (number_in ts) (spelled_clause c)) cs) rest)
 
 abbrev pub clauses_in : ℕ → Protocol → List (Clause Term) → List ℕ → List ℕ
 clauses_in format P cs rest = cond (nat_eq format 2) (numbered_clauses P cs rest) (spelled_clauses P cs rest)

@@ -9,7 +9,7 @@ ghost use Rattle.spec_node_tables.specs.Nodes.{node_of};
 ghost use Rattle.spec_node_tables.specs.Text.{symbol_head, head_text, node_text, node_lines};
 ghost use Rattle.cert_form.specs.Appends.{Appends};
 
-use crate::parts::{put, put_number};
+use crate::parts::{put, put_number, put_variable};
 use crate::words::{declared_word, word_at};
 use node_table::NodeTable;
 use pi_tree::Protocol;
@@ -59,10 +59,7 @@ fn put_node(
         (node_of table.now (tree_at table.now id))) out.old.items out.new.items) }
 {
     match table.node(id) {
-        Node::Var(number) => {
-            put(out, b"v")?;
-            put_number(out, number as u64)
-        }
+        Node::Var(number) => put_variable(out, number),
         Node::App(symbol, arguments) => {
             put_node_head(out, protocol, symbol)?;
             put_arguments(out, table, arguments)

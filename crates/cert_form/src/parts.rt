@@ -1,11 +1,13 @@
 //! The parts of a text that stand round the arguments of a symbol or an event.
 
-ghost use Rattle.std.specs.Prelude.{◌≡◌, ◌++◌, List, OnOk};
+ghost use Rattle.std.specs.Prelude.{◌≡◌, ◌<◌, ◌≤◌, ◌++◌, OnOk};
 ghost use Rattle.std.specs.Fmt.{decimal as decimal_of};
 ghost use Rattle.pi_tree.specs.Protocols.{protocol_of};
 ghost use Rattle.term_tree.specs.Bank.{symbol_of};
 ghost use Rattle.cert_form.specs.Appends.{Appends};
-ghost use Rattle.cert_form.specs.Parts.{is_alone, word_opening, word_closing, made_opening, symbol_opening, symbol_closing, comma_at, gap_at, gap_behind};
+ghost use Rattle.cert_form.specs.Parts.{is_alone, word_opening, word_closing, made_opening, symbol_opening, symbol_closing, comma_at, gap_at};
+ghost use Rattle.cert_form.specs.Premises.{gap_behind, space_where};
+ghost use Rattle.spec_certificate_text.specs.Sides.{first_bound, variable_word};
 
 use crate::words::{declared_word, word_at};
 use clause_form::Trees;
@@ -110,9 +112,54 @@ pub fn put_gap(out: &mut Vec<u8>, place: usize) -> Result<(), AllocError>
     if place == 0 { Ok(()) } else { put(out, b", ") }
 }
 
-/// Puts what stands behind so many hypotheses.
-pub fn put_gap_end(out: &mut Vec<u8>, count: usize) -> Result<(), AllocError>
-    ensures { OnOk result (Appends (gap_behind count) out.old.items out.new.items) }
+/// Puts what stands before the constraint of that place, from 0, behind hypotheses or not.
+pub fn put_gap_behind(out: &mut Vec<u8>, behind: bool, place: usize) -> Result<(), AllocError>
+    ensures { OnOk result (Appends (gap_behind behind place) out.old.items out.new.items) }
 {
-    if count == 0 { Ok(()) } else { put(out, b" ") }
+    if behind {
+        put(out, b", ")
+    } else {
+        put_gap(out, place)
+    }
+}
+
+/// Puts a space, where one is wanted.
+pub fn put_space(out: &mut Vec<u8>, wanted: bool) -> Result<(), AllocError>
+    ensures { OnOk result (Appends (space_where wanted) out.old.items out.new.items) }
+{
+    if wanted { put(out, b" ") } else { Ok(()) }
+}
+
+/// The number from which on variables are spelled as bound ones: no number of a text has as many digits.
+pub const FIRST_BOUND: u32 = 1_000_000_000;
+
+/// Puts a variable of the clause: `v` and its number.
+fn put_own(out: &mut Vec<u8>, number: u32) -> Result<(), AllocError>
+    requires { number < first_bound }
+    ensures { OnOk result (Appends (λ rest. variable_word number ++ rest) out.old.items
+        out.new.items) }
+{
+    put(out, b"v")?;
+    put_number(out, number as u64)
+}
+
+/// Puts a variable that a constraint binds: `?` and its number.
+fn put_bound(out: &mut Vec<u8>, number: u32) -> Result<(), AllocError>
+    requires { first_bound ≤ number }
+    ensures { OnOk result (Appends (λ rest. variable_word number ++ rest) out.old.items
+        out.new.items) }
+{
+    put(out, b"?")?;
+    put_number(out, (number - FIRST_BOUND) as u64)
+}
+
+/// Puts a variable, of the clause or a bound one.
+pub fn put_variable(out: &mut Vec<u8>, number: u32) -> Result<(), AllocError>
+    ensures { OnOk result (Appends (λ rest. variable_word number ++ rest) out.old.items
+        out.new.items) }
+{
+    if number < FIRST_BOUND {
+        return put_own(out, number);
+    }
+    put_bound(out, number)
 }

@@ -6,7 +6,7 @@ ghost use Rattle.clause_form.specs.Plain.{term_of};
 ghost use Rattle.spec_certificate_text.specs.Text.{term_text};
 ghost use Rattle.cert_form.specs.Appends.{Appends};
 
-use crate::parts::{is_alone, put, put_closing, put_comma, put_number, put_opening};
+use crate::parts::{is_alone, put_closing, put_comma, put_opening, put_variable};
 use clause_form::Tree;
 use pi_tree::Protocol;
 use std::alloc::AllocError;
@@ -17,10 +17,7 @@ pub fn put_spelled(out: &mut Vec<u8>, protocol: &Protocol, term: &Tree) -> Resul
         out.old.items out.new.items) }
 {
     match term {
-        Tree::Var(number) => {
-            put(out, b"v")?;
-            put_number(out, *number as u64)
-        }
+        Tree::Var(number) => put_variable(out, *number),
         Tree::App(symbol, arguments) => {
             let alone = is_alone(arguments);
             put_opening(out, protocol, *symbol, alone)?;

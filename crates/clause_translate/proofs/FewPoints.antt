@@ -15,6 +15,13 @@ first_few p few = omega (arith, few)
 pub next_fit : (p : Process) {P : Protocol} {n : ℕ} (to : Place) → IsAt P n to → IsFitProcess P p → IsFitProcess (protocol_at to) p
 next_fit p to at fit = subst (λ (q : Protocol). IsFitProcess q p) (sym at.protocol) fit
 
+-- the next point of one that has such a process behind it
+pub point_before : (point : ℕ) (p : Process) → HasFewPoints (point + 1) p → point ≤ most_points
+point_before point p few = omega (arith, few)
+
+pub at_point : {P : Protocol} (n : ℕ) (p : Process) (to : Place) → IsAt P n to → HasFewPoints n p → HasFewPoints to.point p
+at_point n p to at few = subst (λ k. HasFewPoints k p) (sym at.point) few
+
 -- a process with one below it
 module _ (point : ℕ) (p next : Process) (counted : length (nodes p) ≡ suc (length (nodes next))) where
   pub next_few : {P : Protocol} (to : Place) → IsAt P (point + 1) to → HasFewPoints point p → HasFewPoints to.point next
@@ -30,6 +37,9 @@ module _ (point : ℕ) (p left right : Process) (counted : length (nodes p) ≡ 
 
   pub left_few : {P : Protocol} (to : Place) → IsAt P (point + 1) to → HasFewPoints point p → HasFewPoints to.point left
   left_few to at few = let is : to.point ≡ point + 1 = at.point in omega (arith, few, is, both)
+
+  pub left_within : HasFewPoints point p → HasFewPoints (point + 1) left
+  left_within few = omega (arith, few, both)
 
   pub right_few : {P : Protocol} (to : Place) → IsAt P (point_after (point + 1) left) to → HasFewPoints point p → HasFewPoints to.point right
   right_few to at few = let is : to.point ≡ point + 1 + length (nodes left) = at.point in omega (arith, few, is, both)

@@ -1,5 +1,5 @@
 -- What a visit of a `let` hands to those of its choices.
-use Rattle.std.proofs.Common.{◌≡◌, ◌∙◌, ℕ, ◌+◌, ◌<◌, ◌≤◌, Bool, false, List, [], map, drop, ap, sym, subst, arith}
+use Rattle.std.proofs.Common.{◌≡◌, ◌∙◌, ℕ, ◌+◌, ◌<◌, ◌≤◌, false, List, [], map, drop, ap, sym, subst, arith}
 use Rattle.std.proofs.lemmas.List.{length-drop}
 use Rattle.spec_calculus.specs.Syntax.{Expression, Protocol}
 use Rattle.spec_calculus.specs.Bounds.{most_points}
@@ -11,6 +11,7 @@ use Rattle.spec_translation.specs.Visit.{Visit}
 use Rattle.spec_choice_walks.specs.Instructions.{Instruction, instructions, completions, choices_by}
 use Rattle.spec_choice_walks.proofs.Completing.{all_completed}
 use Rattle.process_visits.specs.declared.choice.Choosing.{Choosing}
+use Rattle.process_visits.specs.declared.ways.Looked.{Looked}
 use Rattle.process_visits.specs.declared.ways.Passed.{Passed}
 use Rattle.process_visits.specs.Places.{protocol_at}
 use Rattle.process_visits.specs.Short.{IsFitExpression, AreFitInstructions}
@@ -40,12 +41,12 @@ module _ (all : List Term) (choosing : Choosing) (e : Expression) (is : instruct
     count = count;
   }
 
-  pub small_let : HasChoices all choosing false → IsSmallLet all choosing e
-  small_let small = record { are = completed_by P (instructions_of choosing) e is; small = small }
+  pub small_let : (going : ℕ) → HasChoices all choosing (record { large = false; going = going }) → IsSmallLet all choosing e going
+  small_let going small = record { are = completed_by P (instructions_of choosing) e is; small = small }
 
 -- none is too large, in a bank that is as before
-pub small_later : (old now : List Term) (choosing : Choosing) (found : Bool) → now ≡ old → found ≡ false → HasChoices old choosing found → HasChoices now choosing false
-small_later old now choosing found back small h = subst (λ (all : List Term). HasChoices all choosing false) (sym back) (subst (λ (b : Bool). HasChoices old choosing b) small h)
+pub small_later : (old now : List Term) (choosing : Choosing) (looked : Looked) → now ≡ old → looked.large ≡ false → HasChoices old choosing looked → HasChoices now choosing (record { large = false; going = looked.going })
+small_later old now choosing looked back small h = subst (λ (all : List Term). HasChoices all choosing (record { large = false; going = looked.going })) (sym back) (record { outs = h.outs; go = h.go; large = h.large ∙ small; going = h.going })
 
 -- in a bank that grew
 pub choosing_later : (old now : List Term) (choosing : Choosing) → Grows old now → IsChoosingIn old choosing → IsChoosingIn now choosing

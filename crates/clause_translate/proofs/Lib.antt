@@ -10,3 +10,4 @@ pub mod Translating
 pub mod Linear
 pub mod Sounding
 pub mod EntryWays
+pub mod Counting

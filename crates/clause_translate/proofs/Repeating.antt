@@ -18,6 +18,7 @@ use Rattle.process_visits.specs.declared.listing.Listing.{Listing}
 use Rattle.process_visits.specs.declared.ways.Passed.{Passed}
 use Rattle.process_visits.specs.declared.ways.Way.{Way}
 use Rattle.process_visits.specs.declared.ways.Way.TheVariants as ways
+use Rattle.process_visits.specs.Visits.{NamesVisit}
 use Rattle.process_visits.specs.Ways.{AreWays, Passes}
 use Rattle.process_visits.proofs.Courses.{each_append, each_join, each_more, each_ends, preceded_none}
 use Rattle.process_visits.proofs.Listings.{lists_none}
@@ -89,7 +90,7 @@ module _ (P : Protocol) (v : Visit) (pattern : Pattern) (rs : List Ruled) (e : E
 
   ways_small : (bank : List Term) (way : Way) (outs : List (Option Visit)) → AreWays bank way outs → some_large outs ≡ false → AreSmallWays bank way outs
   ways_small bank ways.Nowhere outs is small = is
-  ways_small bank ways.Large outs is small = absurd (let same : true ≡ false = sym (way_large P v pattern rs bank ways.Large outs is) ∙ small in cc)
+  ways_small bank ways.Large outs is small = absurd (let same : true ≡ false = sym (way_large P v pattern rs (NamesVisit bank) ways.Large outs is) ∙ small in cc)
   ways_small bank (ways.Visit made) outs is small = is.1 ∙ ap (λ (x : Visit). Some x ∷ []) (sym is.3.is)
 
   -- one more is passed, and at the end

@@ -1,5 +1,5 @@
 -- How the visits of each form of process end, by how those below it do.
-use Rattle.std.proofs.Common.{◌≡◌, ◌≤◌, ℕ, suc, ◌+◌, Bool, true, false, Result, Option, Some, None, List, [], ◌∷◌, ◌++◌, length, map, refl, ap, sym, subst, ◌∙◌, ◌||◌}
+use Rattle.std.proofs.Common.{◌≡◌, ◌⊎◌, ◌≤◌, ℕ, suc, ◌+◌, Bool, true, false, Result, Option, Some, None, List, [], ◌∷◌, ◌++◌, length, map, refl, ap, sym, subst, ◌∙◌, ◌||◌, inl, inr}
 use Rattle.std.specs.Prelude.{IfOk}
 use Rattle.spec_calculus.specs.Syntax.{Process, Nil, Output, Input, Parallel, Replication, New, Let, Event, Phase, Insert, Get, EventTerm, Pattern, Expression, Ruled, Condition, Protocol}
 use Rattle.spec_calculus.specs.Syntax as calculus
@@ -283,6 +283,31 @@ module _ (P : Protocol) (v : Visit) (table : ℕ) (patterns : List Pattern) (con
         (λ out run. fetched before.left (preceded done.more out) large went e go (unless_small (large || some_large (went ∷ [])) point (with_it went) before.left (preceded done.more out) small
         (each_join (λ x. Visited P next (point + 1) x) (went ∷ []) behind_entry before.left midway.left done.more out done.runs run)))
         (moved P (point_after (point + 1) next) v to w otherwise new midway after over at same k)) h
+
+-- a process does nothing, or something
+nil_or : (process : Process) → (process ≡ Nil) ⊎ (process ≡ Nil → ⊥)
+nil_or Nil = inl refl
+nil_or (Output channel message next) = inr (λ e. cc)
+nil_or (Input channel pattern next) = inr (λ e. cc)
+nil_or (Parallel left right) = inr (λ e. cc)
+nil_or (Replication copied) = inr (λ e. cc)
+nil_or (New word next) = inr (λ e. cc)
+nil_or (Let pattern expression next otherwise) = inr (λ e. cc)
+nil_or (Event performed next) = inr (λ e. cc)
+nil_or (Phase number next) = inr (λ e. cc)
+nil_or (Insert table arguments next) = inr (λ e. cc)
+nil_or (Get table patterns condition next otherwise) = inr (λ e. cc)
+
+-- an else branch, at the visit that it has: one that does nothing is the same at each
+pub else_ends : {E : Type 0} (r : Result (Option ℕ) E) (P : Protocol) (process : Process) (point : ℕ) (made v : Visit) (new : List Term) (before after : Listing) → ((process ≡ Nil → ⊥) → made ≡ v)
+    → IfOk r (λ large. Ends P (Once process point made) new before after large) → IfOk r (λ large. Ends P (Once process point v) new before after large)
+else_ends r P process point made v new before after named h = go (nil_or process) where
+  go : (process ≡ Nil) ⊎ (process ≡ Nil → ⊥) → IfOk r (λ large. Ends P (Once process point v) new before after large)
+  go (inl e) =
+      if_ok r (λ large. Ends P (Once process point made) new before after large) (λ large. Ends P (Once process point v) new before after large)
+      (λ large k. ends_as P (Once process point made) (Once process point v) new before after large
+      (λ out. subst (λ (p : Process). Visited P p point made before.left out → Visited P p point v before.left out) (sym e) (λ run. run)) k) h
+  go (inr other) = subst (λ (w : Visit). IfOk r (λ large. Ends P (Once process point w) new before after large)) (named other) h
 
 -- nothing
 pub nil_ends : (P : Protocol) (point : ℕ) (v : Visit) (all : List Term) (listing : Listing) → Ends P (Uncounted Nil point v) all listing listing None

@@ -53,10 +53,10 @@ IsKnownWay all point ways.Nowhere = Unit {0}
 IsKnownWay all point ways.Large = Unit {0}
 IsKnownWay all point (ways.Visit made) = IsVisitIn all made × HasFewCopies point made
 
--- the choices of a `let` are those of the expression, and none goes on with a visit that is too large
-pub record IsSmallLet (all : List Term) (choosing : Choosing) (expression : Expression) : Type 0 where
+-- the choices of a `let` are those of the expression, so many go on, and none with a visit that is too large
+pub record IsSmallLet (all : List Term) (choosing : Choosing) (expression : Expression) (going : ℕ) : Type 0 where
   pub are : choices_of choosing ≡ map (λ c. c.ruled) (choices (protocol_at choosing.place.now) expression)
-  pub small : HasChoices all choosing false
+  pub small : HasChoices all choosing (record { large = false; going = going })
 
 -- the process is visited once for each of these choices that goes on
 pub record EndsEach (P : Protocol) (v : Visit) (pattern : Pattern) (rs : List Ruled) (process : Process) (point : ℕ) (all : List Term) (before after : Listing) (large : Option ℕ) : Type 0 where

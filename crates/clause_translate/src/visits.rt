@@ -1,6 +1,6 @@
 //! The visits of a process in pre-order (Blanchet 2016, section 3.3.2).
 
-ghost use Rattle.std.specs.Prelude.{◌≡◌, ◌+◌, Option, List, [], map, IfOk};
+ghost use Rattle.std.specs.Prelude.{◌≡◌, ℕ, ◌+◌, ◌<◌, Option, List, [], map, IfOk, MatchOption};
 ghost use Rattle.spec_calculus.specs.Syntax as calculus;
 ghost use Rattle.pi_tree.specs.Expressions.{expression_of};
 ghost use Rattle.pi_tree.specs.Patterns.{pattern_of};
@@ -19,7 +19,7 @@ ghost use Rattle.clause_translate.specs.Jobs.{Once, Uncounted, Each, Ends, AreSm
 
 use pi_tree::{Expr, Process};
 use process_visits::choice::Choosing;
-use process_visits::choices::{choices_from, count_choices, is_large_choice};
+use process_visits::choices::{choices_from, count_choices, look_at_choices};
 use process_visits::copies::after_copy;
 use process_visits::events::add_event;
 use process_visits::forms::{Event, Get, Input, Insert, Let, Output, Parallel, Phase};
@@ -29,6 +29,7 @@ use process_visits::inserts::add_insert;
 use process_visits::large::{is_large_let, some_large_compared_in};
 use process_visits::listing::Listing;
 use process_visits::names::after_new;
+use process_visits::otherwise::else_visit;
 use process_visits::outputs::add_output;
 use process_visits::phases::after_phase;
 use process_visits::place::Place;
@@ -336,7 +337,6 @@ fn visit_let<'a, B: Bank>(
     if is_large_let(place, bank, &visit.scope, choice.pattern, choice.expression) {
         return Ok(Some(place.point));
     }
-    let below = place.below();
     let after = place.after(choice.next);
     let instructions = instructions_in(place.alloc, &*choice.expression)?;
     let count = count_choices(place.protocol, &instructions);
@@ -347,12 +347,16 @@ fn visit_let<'a, B: Bank>(
         instructions: &instructions,
         count,
     };
-    if is_large_choice(&choosing, bank)? {
+    let looked = look_at_choices(&choosing, bank)?;
+    if looked.large {
         return Ok(Some(place.point));
     }
-    match visit_choices(choice.next, &below, bank, listing, &choosing)? {
+    match visit_chosen(choice.next, bank, listing, &choosing, looked.going)? {
         Some(point) => Ok(Some(point)),
-        None => visit_process(choice.otherwise, &after, bank, listing, visit),
+        None => {
+            let made = else_visit(&choosing, bank, choice.otherwise)?;
+            visit_process(choice.otherwise, &after, bank, listing, &made)
+        }
     }
 }
 
@@ -462,6 +466,50 @@ fn visit_get<B: Bank>(
     }
 }
 
+/// Counts so many visits of a process that does nothing, and tells its point where fewer are left.
+fn count_visits(listing: &mut Listing, going: usize, point: u32) -> Option<u32>
+    ensures counts { MatchOption result (listing.old.left ≡ listing.new.left + going)
+        (λ at. (at ≡ point) × (listing.old.left < going)) }
+    ensures clauses { listing.new.clauses ≡ listing.old.clauses }
+    ensures keeps { listing.new.keeps ≡ listing.old.keeps }
+{
+    if (listing.left as usize) < going {
+        listing.left = 0;
+        return Some(point);
+    }
+    listing.left -= going as u32;
+    None
+}
+
+/// Visits a process once for each choice of a `let` that goes on, in order; so many do. The visits of one that does nothing
+/// are counted alone. On `Err` the bank may have grown.
+#[cycle(visits)]
+fn visit_chosen<B: Bank>(
+    process: &Process,
+    bank: &mut B,
+    listing: &mut Listing,
+    choosing: &Choosing<'_>,
+    going: usize,
+) -> Result<Option<u32>, AllocError>
+    requires known { IsChoosingIn (B.trees bank.old) choosing.now }
+    requires small { (expression : calculus.Expression)
+        × IsSmallLet (B.trees bank.old) choosing.now expression going }
+    requires fit { IsFitProcess (protocol_at choosing.now.place.now) (process_of process.now) }
+    requires points { HasFewPoints (choosing.now.place.now.point + 1) (process_of process.now) }
+    requires copies { HasFewCopies choosing.now.place.now.point choosing.now.visit.now }
+    ensures grows { Grows (B.trees bank.old) (B.trees bank.new) }
+    ensures ends { IfOk result (EndsEach (protocol_at choosing.now.place.now)
+        (visit_at (B.trees bank.old) choosing.now.visit.now) (pattern_of choosing.now.pattern.now)
+        (choices_of choosing.now) (process_of process.now) (choosing.now.place.now.point + 1)
+        (B.trees bank.new) listing.old listing.new) }
+{
+    let below = choosing.place.below();
+    match process {
+        Process::Nil => Ok(count_visits(listing, going, below.point)),
+        _ => visit_choices(process, &below, bank, listing, choosing),
+    }
+}
+
 /// Visits a process once for each choice of a `let` that goes on, in order. On `Err` the bank may have grown.
 #[cycle(visits)]
 fn visit_choices<B: Bank>(
@@ -472,8 +520,8 @@ fn visit_choices<B: Bank>(
     choosing: &Choosing<'_>,
 ) -> Result<Option<u32>, AllocError>
     requires known { IsChoosingIn (B.trees bank.old) choosing.now }
-    requires small { (expression : calculus.Expression)
-        × IsSmallLet (B.trees bank.old) choosing.now expression }
+    requires small { (expression : calculus.Expression) × (going : ℕ)
+        × IsSmallLet (B.trees bank.old) choosing.now expression going }
     requires at { IsAt (protocol_at choosing.now.place.now) (choosing.now.place.now.point + 1)
         place.now }
     requires fit { IsFitProcess (protocol_at place.now) (process_of process.now) }

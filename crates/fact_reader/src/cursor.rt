@@ -14,6 +14,7 @@ pub struct Cursor<'a> {
 }
 
 impl<'a> Cursor<'a> {
+    ghost use Rattle.spec_certificate_text.specs.Clauses.{has_next_hypothesis};
     ghost use Rattle.spec_certificate_text.specs.Outcomes as outcomes;
     ghost use Rattle.spec_certificate_text.specs.Outcomes.{read_fixed, read_number};
     ghost use Rattle.fact_reader.specs.Gives.{same};
@@ -41,6 +42,13 @@ impl<'a> Cursor<'a> {
         ensures { result ≡ outcomes.front (drop others (left_of self.now)) }
     {
         front(&self.bytes[self.at..], others)
+    }
+
+    /// Whether behind a hypothesis another follows, and no constraint.
+    pub fn has_next_hypothesis(&self) -> bool
+        ensures { result ≡ has_next_hypothesis (left_of self.now) }
+    {
+        self.front() == b',' && self.front_behind(2) != b'd'
     }
 
     /// Passes over the text, which has to stand there.

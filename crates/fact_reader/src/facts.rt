@@ -1,6 +1,6 @@
 //! Facts, whatever the way in which terms are read.
 
-ghost use Rattle.std.specs.Prelude.{◌≡◌, map, IfOk};
+ghost use Rattle.std.specs.Prelude.{◌≡◌, false, map, IfOk};
 ghost use Rattle.std.specs.List.{AllByRecursion};
 ghost use Rattle.spec_certificate_text.specs.Facts as facts;
 ghost use Rattle.spec_certificate_text.specs.Walks as walks;
@@ -52,7 +52,7 @@ fn att<R: TermReader>(
     cursor: &mut Cursor<'_>,
     state: &mut R::State,
 ) -> Result<R::Fact, CertError>
-    ensures read { Walks (R.fact_of reader.now) (walks.read_att (R.walk reader.now) R.counts
+    ensures read { Walks (R.fact_of reader.now) (walks.read_att (R.walk reader.now false) R.counts
         (protocol_in names.now))
         (R.seen state.old) (R.seen state.new) cursor.old cursor.new result }
     ensures same { cursor.new.bytes.now ≡ cursor.old.bytes.now }
@@ -62,7 +62,7 @@ fn att<R: TermReader>(
     let phase = read_phase(names, cursor)?;
     cursor.pass(b"(")?;
     reader.count(state, 1);
-    let known = reader.read_term(cursor, state)?;
+    let known = reader.read_tree(cursor, state, false)?;
     cursor.pass(b")")?;
     Ok(reader.make_fact(ReadFact::Att(phase, known)))
 }
@@ -74,7 +74,7 @@ fn mess<R: TermReader>(
     cursor: &mut Cursor<'_>,
     state: &mut R::State,
 ) -> Result<R::Fact, CertError>
-    ensures read { Walks (R.fact_of reader.now) (walks.read_mess (R.walk reader.now) R.counts
+    ensures read { Walks (R.fact_of reader.now) (walks.read_mess (R.walk reader.now false) R.counts
         (protocol_in names.now))
         (R.seen state.old) (R.seen state.new) cursor.old cursor.new result }
     ensures same { cursor.new.bytes.now ≡ cursor.old.bytes.now }
@@ -84,9 +84,9 @@ fn mess<R: TermReader>(
     let phase = read_phase(names, cursor)?;
     cursor.pass(b"(")?;
     reader.count(state, 1);
-    let channel = reader.read_term(cursor, state)?;
+    let channel = reader.read_tree(cursor, state, false)?;
     cursor.pass(b",")?;
-    let message = reader.read_term(cursor, state)?;
+    let message = reader.read_tree(cursor, state, false)?;
     cursor.pass(b")")?;
     Ok(reader.make_fact(ReadFact::Mess(phase, channel, message)))
 }
@@ -98,7 +98,7 @@ fn tab<R: TermReader>(
     cursor: &mut Cursor<'_>,
     state: &mut R::State,
 ) -> Result<R::Fact, CertError>
-    ensures read { Walks (R.fact_of reader.now) (walks.read_tab (R.walk reader.now) R.counts
+    ensures read { Walks (R.fact_of reader.now) (walks.read_tab (R.walk reader.now false) R.counts
         (protocol_in names.now))
         (R.seen state.old) (R.seen state.new) cursor.old cursor.new result }
     ensures same { cursor.new.bytes.now ≡ cursor.old.bytes.now }
@@ -118,7 +118,7 @@ fn ev<R: TermReader>(
     cursor: &mut Cursor<'_>,
     state: &mut R::State,
 ) -> Result<R::Fact, CertError>
-    ensures read { Walks (R.fact_of reader.now) (walks.read_ev (R.walk reader.now) R.counts
+    ensures read { Walks (R.fact_of reader.now) (walks.read_ev (R.walk reader.now false) R.counts
         (protocol_in names.now))
         (R.seen state.old) (R.seen state.new) cursor.old cursor.new result }
     ensures same { cursor.new.bytes.now ≡ cursor.old.bytes.now }
@@ -138,7 +138,7 @@ fn mev<R: TermReader>(
     cursor: &mut Cursor<'_>,
     state: &mut R::State,
 ) -> Result<R::Fact, CertError>
-    ensures read { Walks (R.fact_of reader.now) (walks.read_mev (R.walk reader.now) R.counts
+    ensures read { Walks (R.fact_of reader.now) (walks.read_mev (R.walk reader.now false) R.counts
         (protocol_in names.now))
         (R.seen state.old) (R.seen state.new) cursor.old cursor.new result }
     ensures same { cursor.new.bytes.now ≡ cursor.old.bytes.now }
@@ -159,7 +159,7 @@ fn bad_arguments<R: TermReader>(
     state: &mut R::State,
 ) -> Result<Vec<R::Term>, CertError>
     ensures read { Walks (λ ts. map (R.term_of reader.now) ts.items)
-        (walks.bad_arguments (R.walk reader.now))
+        (walks.bad_arguments (R.walk reader.now false))
         (R.seen state.old) (R.seen state.new) cursor.old cursor.new result }
     ensures same { cursor.new.bytes.now ≡ cursor.old.bytes.now }
     ensures known { IfOk result (λ ts. AllByRecursion (R.IsTerm reader.now) ts.items) }
@@ -178,7 +178,7 @@ fn bad<R: TermReader>(
     cursor: &mut Cursor<'_>,
     state: &mut R::State,
 ) -> Result<R::Fact, CertError>
-    ensures read { Walks (R.fact_of reader.now) (walks.read_bad (R.walk reader.now) R.counts)
+    ensures read { Walks (R.fact_of reader.now) (walks.read_bad (R.walk reader.now false) R.counts)
         (R.seen state.old) (R.seen state.new) cursor.old cursor.new result }
     ensures same { cursor.new.bytes.now ≡ cursor.old.bytes.now }
     ensures known { IfOk result (R.IsFact reader.now) }
@@ -196,7 +196,7 @@ fn mev_or_mess<R: TermReader>(
     cursor: &mut Cursor<'_>,
     state: &mut R::State,
 ) -> Result<R::Fact, CertError>
-    ensures read { Walks (R.fact_of reader.now) (walks.read_mev_or_mess (R.walk reader.now) R.counts
+    ensures read { Walks (R.fact_of reader.now) (walks.read_mev_or_mess (R.walk reader.now false) R.counts
         (protocol_in names.now))
         (R.seen state.old) (R.seen state.new) cursor.old cursor.new result }
     ensures same { cursor.new.bytes.now ≡ cursor.old.bytes.now }
@@ -216,7 +216,7 @@ pub(crate) fn read_hypothesis<R: TermReader>(
     cursor: &mut Cursor<'_>,
     state: &mut R::State,
 ) -> Result<R::Fact, CertError>
-    ensures read { Walks (R.fact_of reader.now) (walks.read_hypothesis (R.walk reader.now) R.counts
+    ensures read { Walks (R.fact_of reader.now) (walks.read_hypothesis (R.walk reader.now false) R.counts
         (protocol_in names.now))
         (R.seen state.old) (R.seen state.new) cursor.old cursor.new result }
     ensures same { cursor.new.bytes.now ≡ cursor.old.bytes.now }
@@ -241,7 +241,7 @@ pub(crate) fn read_conclusion<R: TermReader>(
     cursor: &mut Cursor<'_>,
     state: &mut R::State,
 ) -> Result<R::Fact, CertError>
-    ensures read { Walks (R.fact_of reader.now) (walks.read_conclusion (R.walk reader.now) R.counts
+    ensures read { Walks (R.fact_of reader.now) (walks.read_conclusion (R.walk reader.now false) R.counts
         (protocol_in names.now))
         (R.seen state.old) (R.seen state.new) cursor.old cursor.new result }
     ensures same { cursor.new.bytes.now ≡ cursor.old.bytes.now }

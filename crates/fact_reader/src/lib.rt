@@ -1,4 +1,4 @@
-//! A reader of the texts of facts and clauses, and of what stands between them.
+//! A reader of the texts of facts, constraints and clauses, and of what stands between them.
 //!
 //! The crates `term_reader` and `fact_reader` belong together: they read terms, and facts and clauses, and each meets the
 //! definitions of the crate `spec_certificate_text`. Certificates and reports are to be read by what comes above.
@@ -7,6 +7,7 @@
 mod bytes;
 mod clauses;
 mod cursor;
+mod diffs;
 mod error;
 mod facts;
 mod rows;

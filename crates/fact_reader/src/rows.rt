@@ -1,6 +1,6 @@
 //! Rows of terms, and events and entries of tables over them, whatever the way in which terms are read.
 
-ghost use Rattle.std.specs.Prelude.{◌≡◌, ℕ, List, Some, map, IfOk};
+ghost use Rattle.std.specs.Prelude.{◌≡◌, ℕ, false, List, Some, map, IfOk};
 ghost use Rattle.std.specs.List.{AllByRecursion};
 ghost use Rattle.spec_terms.specs.Term.{Term};
 ghost use Rattle.spec_certificate_text.specs.Facts as facts;
@@ -25,28 +25,62 @@ pub struct ReadEvent<T> {
     pub arguments: Vec<T>,
 }
 
-/// A term and what stands behind it: `,` where another follows, or `)`.
-fn argument<R: TermReader>(
+/// What stands in a row: sides of a constraint, in which variables may be bound, or terms of a fact; and the byte behind the last.
+#[derive(Clone, Copy)]
+pub(crate) struct Row {
+    pub binds: bool,
+    pub closing: u8,
+}
+
+/// A term or a side, and what stands behind it: `,` where another follows, or the byte behind the last.
+fn item<R: TermReader>(
     reader: &R,
     cursor: &mut Cursor<'_>,
     state: &mut R::State,
+    row: Row,
 ) -> Result<(R::Term, bool), CertError>
-    ensures read { Walks (seen_too (R.term_of reader.now)) (walks.argument (R.walk reader.now))
+    ensures read { Walks (seen_too (R.term_of reader.now))
+        (walks.item_before (R.walk reader.now row.binds) row.closing)
         (R.seen state.old) (R.seen state.new) cursor.old cursor.new result }
     ensures same { cursor.new.bytes.now ≡ cursor.old.bytes.now }
     ensures known { IfOk result (λ x. R.IsTerm reader.now x.0) }
 {
-    let found = reader.read_term(cursor, state)?;
+    let found = reader.read_tree(cursor, state, row.binds)?;
     if cursor.front() == b',' {
         cursor.pass(b",")?;
         return Ok((found, true));
     }
-    cursor.pass(b")")?;
+    cursor.pass(&[row.closing])?;
     Ok((found, false))
 }
 
-/// Terms, a comma between each two, and `)` behind the last.
+/// Terms or sides, a comma between each two, and the byte behind the last.
 #[tactic(auto, using(crate::proofs::Rounds::rows))]
+pub(crate) fn items<R: TermReader>(
+    alloc: Global,
+    reader: &R,
+    cursor: &mut Cursor<'_>,
+    state: &mut R::State,
+    row: Row,
+) -> Result<Vec<R::Term>, CertError>
+    ensures read { Walks (λ ts. map (R.term_of reader.now) ts.items)
+        (walks.read_row (R.walk reader.now row.binds) row.closing)
+        (R.seen state.old) (R.seen state.new) cursor.old cursor.new result }
+    ensures same { cursor.new.bytes.now ≡ cursor.old.bytes.now }
+    ensures known { IfOk result (λ ts. AllByRecursion (R.IsTerm reader.now) ts.items) }
+{
+    let mut items = Vec::new(alloc);
+    for round in cursor.at..cursor.bytes.len() + 1 {
+        let (next, more) = item(reader, cursor, state, row)?;
+        items.push(next)?;
+        if !more {
+            return Ok(items);
+        }
+    }
+    Err(CertError::Syntax(cursor.at))
+}
+
+/// Terms of a fact, a comma between each two, and `)` behind the last.
 pub(crate) fn terms<R: TermReader>(
     alloc: Global,
     reader: &R,
@@ -54,20 +88,16 @@ pub(crate) fn terms<R: TermReader>(
     state: &mut R::State,
 ) -> Result<Vec<R::Term>, CertError>
     ensures read { Walks (λ ts. map (R.term_of reader.now) ts.items)
-        (walks.read_terms (R.walk reader.now))
+        (walks.read_terms (R.walk reader.now false))
         (R.seen state.old) (R.seen state.new) cursor.old cursor.new result }
     ensures same { cursor.new.bytes.now ≡ cursor.old.bytes.now }
     ensures known { IfOk result (λ ts. AllByRecursion (R.IsTerm reader.now) ts.items) }
 {
-    let mut items = Vec::new(alloc);
-    for round in cursor.at..cursor.bytes.len() + 1 {
-        let (next, more) = argument(reader, cursor, state)?;
-        items.push(next)?;
-        if !more {
-            return Ok(items);
-        }
-    }
-    Err(CertError::Syntax(cursor.at))
+    let row = Row {
+        binds: false,
+        closing: b')',
+    };
+    items(alloc, reader, cursor, state, row)
 }
 
 /// What stands behind the word of an event or a table.
@@ -78,7 +108,7 @@ fn applied<R: TermReader>(
     state: &mut R::State,
 ) -> Result<Vec<R::Term>, CertError>
     ensures read { Walks (λ ts. map (R.term_of reader.now) ts.items)
-        (walks.applied (R.walk reader.now))
+        (walks.applied (R.walk reader.now false))
         (R.seen state.old) (R.seen state.new) cursor.old cursor.new result }
     ensures same { cursor.new.bytes.now ≡ cursor.old.bytes.now }
     ensures known { IfOk result (λ ts. AllByRecursion (R.IsTerm reader.now) ts.items) }
@@ -125,7 +155,7 @@ fn over_arguments<R: TermReader>(
     begun: Begun,
 ) -> Result<ReadEvent<R::Term>, CertError>
     ensures read { Walks (event_over (R.term_of reader.now))
-        (walks.event_named (R.walk reader.now) (Some (called_of begun.called)) begun.from)
+        (walks.event_named (R.walk reader.now false) (Some (called_of begun.called)) begun.from)
         (R.seen state.old) (R.seen state.new) cursor.old cursor.new result }
     ensures same { cursor.new.bytes.now ≡ cursor.old.bytes.now }
     ensures known { IfOk result (λ read.
@@ -143,7 +173,7 @@ pub(crate) fn event<R: TermReader>(
     state: &mut R::State,
 ) -> Result<ReadEvent<R::Term>, CertError>
     ensures read { Walks (event_over (R.term_of reader.now))
-        (walks.read_event (R.walk reader.now) (protocol_in names.now))
+        (walks.read_event (R.walk reader.now false) (protocol_in names.now))
         (R.seen state.old) (R.seen state.new) cursor.old cursor.new result }
     ensures same { cursor.new.bytes.now ≡ cursor.old.bytes.now }
     ensures known { IfOk result (λ read.
@@ -170,7 +200,7 @@ pub(crate) fn entry<R: TermReader>(
     state: &mut R::State,
 ) -> Result<ReadEvent<R::Term>, CertError>
     ensures read { Walks (event_over (R.term_of reader.now))
-        (walks.read_entry (R.walk reader.now) (protocol_in names.now))
+        (walks.read_entry (R.walk reader.now false) (protocol_in names.now))
         (R.seen state.old) (R.seen state.new) cursor.old cursor.new result }
     ensures same { cursor.new.bytes.now ≡ cursor.old.bytes.now }
     ensures known { IfOk result (λ read.

@@ -12,16 +12,16 @@ use crate::clauses::read_clause_by;
 use crate::cursor::Cursor;
 use crate::error::{CertError, error_at};
 use crate::terms::{ReadFact, TermReader};
-use clause_form::{PlainClause, PlainDiffs, PlainFact, PlainFacts, Tree, Trees};
-use term_reader::{Names, Read, term_at};
+use clause_form::{PlainClause, PlainDiff, PlainDiffs, PlainFact, PlainFacts, Tree, Trees};
+use term_reader::{FIRST_BOUND, Names, Read, term_at};
 
-/// A term.
-fn term(names: &Names<'_>, cursor: &mut Cursor<'_>) -> Result<Tree, CertError>
-    ensures read { Reads term_of (facts.one_term (protocol_in names.now))
+/// A side of a constraint, in which variables may be bound, or a term of a fact.
+fn tree(names: &Names<'_>, cursor: &mut Cursor<'_>, binds: bool) -> Result<Tree, CertError>
+    ensures read { Reads term_of (facts.one_tree binds (protocol_in names.now))
         cursor.old cursor.new result }
     ensures same { cursor.new.bytes.now ≡ cursor.old.bytes.now }
 {
-    match term_at(names, cursor.bytes, cursor.at)? {
+    match term_at(names, cursor.bytes, cursor.at, binds)? {
         Read::Done(term, place) => {
             cursor.at = place;
             Ok(term)
@@ -41,17 +41,20 @@ struct SpelledTerms<'a> {
 }
 
 impl TermReader for SpelledTerms<'_> {
-    ghost use Rattle.std.specs.Prelude.{◌≡◌};
+    ghost use Rattle.std.specs.Prelude.{◌≡◌, map};
     ghost use Rattle.std.specs.List.{AllByRecursion};
     ghost use Rattle.clause_form.specs.Plain.{term_of as term_of_tree};
     ghost use Rattle.clause_form.specs.PlainFacts.{plain_fact_of};
     ghost use Rattle.term_reader.specs.Naming.{protocol_in};
-    ghost use Rattle.spec_certificate_text.specs.Walks.{spelled_term, no_counts};
+    ghost use Rattle.spec_certificate_text.specs.Sides.{spelled_diff, meant_diff};
+    ghost use Rattle.spec_certificate_text.specs.Walks.{spelled_tree, no_counts};
     ghost use Rattle.fact_reader.specs.Over.{fact_over, terms_in};
 
     type Term = Tree;
 
     type Fact = PlainFact;
+
+    type Diff = PlainDiff;
 
     type State = Uncounted;
 
@@ -59,7 +62,7 @@ impl TermReader for SpelledTerms<'_> {
 
     ghost seen = { λ _. tt };
 
-    ghost walk = { λ r. spelled_term (protocol_in r.names.now) };
+    ghost walk = { λ r binds. spelled_tree binds (protocol_in r.names.now) };
 
     ghost counts = { no_counts };
 
@@ -67,18 +70,23 @@ impl TermReader for SpelledTerms<'_> {
 
     ghost fact_of = { λ _. plain_fact_of };
 
+    ghost diff_of = { λ _. spelled_diff };
+
     ghost IsTerm = { λ _ _. Unit {0} };
 
     ghost IsFact = { λ _ _. Unit {0} };
 
+    ghost IsDiff = { λ _ d. meant_diff (spelled_diff d) ≡ d };
+
     fn count(&self, _state: &mut Uncounted, _symbols: u64) {}
 
-    fn read_term(
+    fn read_tree(
         &self,
         cursor: &mut Cursor<'_>,
         _state: &mut Uncounted,
+        binds: bool,
     ) -> Result<Tree, CertError> {
-        term(self.names, cursor)
+        tree(self.names, cursor, binds)
     }
 
     fn make_fact(&self, read: ReadFact<Tree>) -> PlainFact
@@ -94,6 +102,22 @@ impl TermReader for SpelledTerms<'_> {
             ReadFact::Bad(items) => PlainFact::Bad(Trees { items }),
         }
     }
+
+    #[tactic(auto, using(crate::proofs::KeptState::sides))]
+    fn make_diff(&self, left: Vec<Tree>, right: Vec<Tree>) -> PlainDiff
+        ensures seen { spelled_diff result ≡ record {
+          left = map term_of_tree left.items;
+          right = map term_of_tree right.items;
+        } }
+        ensures known { AllByRecursion (λ _. Unit {0}) left.items →
+            AllByRecursion (λ _. Unit {0}) right.items → meant_diff (spelled_diff result) ≡ result }
+    {
+        PlainDiff {
+            first: FIRST_BOUND,
+            left: Trees { items: left },
+            right: Trees { items: right },
+        }
+    }
 }
 
 /// The clause that stands there, each term as it is spelled; or the first fault.
@@ -103,12 +127,9 @@ pub fn read_clause(names: &Names<'_>, cursor: &mut Cursor<'_>) -> Result<PlainCl
     ensures same { cursor.new.bytes.now ≡ cursor.old.bytes.now }
 {
     let read = read_clause_by(names, &SpelledTerms { names }, cursor, &mut Uncounted)?;
-    let diffs = PlainDiffs {
-        items: Vec::new(names.alloc),
-    };
     Ok(PlainClause {
         hyps: PlainFacts { items: read.hyps },
-        diffs,
+        diffs: PlainDiffs { items: read.diffs },
         concl: read.concl,
     })
 }

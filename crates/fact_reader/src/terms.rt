@@ -14,13 +14,14 @@ pub enum ReadFact<T> {
     Bad(Vec<T>),
 }
 
-/// How the terms of a certificate are read, and facts over them made. Each term leads from a state to another, and so do the
-/// symbols that stand besides terms.
+/// How the terms of a certificate are read, and facts and constraints over them made. Each term leads from a state to another, and so
+/// do the symbols that stand besides terms.
 pub trait TermReader {
-    ghost use Rattle.std.specs.Prelude.{◌≡◌, ℕ, IfOk};
+    ghost use Rattle.std.specs.Prelude.{◌≡◌, ℕ, Bool, map, IfOk};
     ghost use Rattle.std.specs.List.{AllByRecursion};
     ghost use Rattle.spec_terms.specs.Term.{Term as TermOf};
     ghost use Rattle.spec_clauses.specs.Fact.{Fact as FactOf};
+    ghost use Rattle.spec_certificate_text.specs.Sides.{SidesOf};
     ghost use Rattle.spec_certificate_text.specs.Walks.{Walk};
     ghost use Rattle.fact_reader.specs.Walks.{Walks};
     ghost use Rattle.fact_reader.specs.Over.{fact_over, terms_in};
@@ -31,6 +32,9 @@ pub trait TermReader {
     /// A fact over such terms.
     type Fact: Drop;
 
+    /// A constraint over such terms.
+    type Diff: Drop;
+
     /// How far reading has come.
     type State;
 
@@ -39,32 +43,37 @@ pub trait TermReader {
 
     ghost seen: { Self.State → Seen };
 
-    /// What reads a term, and what counts symbols.
-    ghost walk: { Self → Walk Seen TermOf };
+    /// What reads a side of a constraint, in which variables may be bound, or a term of a fact; and what counts symbols.
+    ghost walk: { Self → Bool → Walk Seen TermOf };
 
     ghost counts: { ℕ → Seen → Seen };
 
-    /// What terms and facts are seen as, and of which this can be told.
+    /// What terms, facts and constraints are seen as, and of which this can be told.
     ghost term_of: { Self → Self.Term → TermOf };
 
     ghost fact_of: { Self → Self.Fact → FactOf TermOf };
+
+    ghost diff_of: { Self → Self.Diff → SidesOf TermOf };
 
     ghost IsTerm: { Self → Self.Term → Type 0 };
 
     ghost IsFact: { Self → Self.Fact → Type 0 };
 
+    ghost IsDiff: { Self → Self.Diff → Type 0 };
+
     /// Counts so many symbols more.
     fn count(&self, state: &mut Self::State, symbols: u64)
         ensures { seen state.new ≡ counts symbols (seen state.old) };
 
-    /// The term that stands there.
-    fn read_term(
+    /// The side of a constraint that stands there, in which variables may be bound, or the term of a fact.
+    fn read_tree(
         &self,
         cursor: &mut Cursor<'_>,
         state: &mut Self::State,
+        binds: bool,
     ) -> Result<Self::Term, CertError>
-        ensures read { Walks (term_of self.now) (walk self.now) (seen state.old) (seen state.new)
-            cursor.old cursor.new result }
+        ensures read { Walks (term_of self.now) (walk self.now binds)
+            (seen state.old) (seen state.new) cursor.old cursor.new result }
         ensures same { cursor.new.bytes.now ≡ cursor.old.bytes.now }
         ensures known { IfOk result (IsTerm self.now) };
 
@@ -72,4 +81,13 @@ pub trait TermReader {
     fn make_fact(&self, read: ReadFact<Self::Term>) -> Self::Fact
         ensures seen { fact_of self.now result ≡ fact_over (term_of self.now) read }
         ensures known { AllByRecursion (IsTerm self.now) (terms_in read) → IsFact self.now result };
+
+    /// The constraint of these sides.
+    fn make_diff(&self, left: Vec<Self::Term>, right: Vec<Self::Term>) -> Self::Diff
+        ensures seen { diff_of self.now result ≡ record {
+          left = map (term_of self.now) left.items;
+          right = map (term_of self.now) right.items;
+        } }
+        ensures known { AllByRecursion (IsTerm self.now) left.items →
+            AllByRecursion (IsTerm self.now) right.items → IsDiff self.now result };
 }

@@ -16,7 +16,7 @@ use Rattle.spec_node_tables.specs.Text.{node_numbers}
 use Rattle.spec_node_tables.specs.Large.{is_over}
 use Rattle.spec_node_tables.specs.Order.{IsNumberOf}
 use Rattle.spec_node_starts.specs.Starts.{start_of}
-use Rattle.spec_node_counts.specs.Nodes.{Table, with_node, added}
+use Rattle.spec_node_counts.specs.Nodes.{Table, is_bound_node, with_node, added}
 use Rattle.term_tree.specs.Bank.{tree_at, AreKnown, Names, capped}
 use Rattle.term_tree.specs.declared.bank.Id.{Id}
 use Rattle.term_store.specs.SharedBank.{Finds, IsKnown, AddsNew}
@@ -123,15 +123,16 @@ added_large T new id from n place rest told finds adds long names is more =
     ap (if_new T from n place rest) (longer_is_new (term_of T.terms n) T.terms new id finds adds long).0
     ∙ ap (if_fits T from n place rest) (over_limit (size (term_of T.terms n)) told (is ∙ ap (λ t. capped (size t)) names.is) more)
 
-pub added_new : (T : Table) (new : List Term) (id : Id) (from : ℕ) (n : TableNode) (place : ℕ) (rest : List ℕ) (told : ℕ) (starts : List ℕ) → Finds T.terms new (term_of T.terms n) id → AddsNew T.terms new (term_of T.terms n) → length new ≢ length T.terms
-    → Names new id (term_of T.terms n) → told ≡ capped (size (tree_at new id)) → told ≤ most_symbols → starts ≡ T.starts ++ start_of T.starts (length T.terms) (node_numbers n) ∷ []
-    → added T from n place rest ≡ Found (record { terms = new; starts = starts }) place rest
-added_new T new id from n place rest told starts finds adds long names is few begins =
+pub added_new : (T : Table) (new : List Term) (id : Id) (from : ℕ) (n : TableNode) (place : ℕ) (rest : List ℕ) (told : ℕ) (starts : List ℕ) (bounds : List Bool) → Finds T.terms new (term_of T.terms n) id → AddsNew T.terms new (term_of T.terms n) → length new ≢ length T.terms
+    → Names new id (term_of T.terms n) → told ≡ capped (size (tree_at new id)) → told ≤ most_symbols → starts ≡ T.starts ++ start_of T.starts (length T.terms) (node_numbers n) ∷ [] → bounds ≡ T.bounds ++ is_bound_node T.bounds n ∷ []
+    → added T from n place rest ≡ Found (record { terms = new; starts = starts; bounds = bounds }) place rest
+added_new T new id from n place rest told starts bounds finds adds long names is few begins binds =
     let added = longer_is_new (term_of T.terms n) T.terms new id finds adds long in
     ap (if_new T from n place rest) added.0
     ∙ (ap (if_fits T from n place rest) (within_limit (size (term_of T.terms n)) told (is ∙ ap (λ t. capped (size t)) names.is) few)
-    ∙ (ap (λ ts. Found (record { terms = ts; starts = T.starts ++ start_of T.starts (length T.terms) (node_numbers n) ∷ [] }) place rest) (sym added.1)
-    ∙ ap (λ ss. Found (record { terms = new; starts = ss }) place rest) (sym begins)))
+    ∙ (ap (λ ts. Found (record { terms = ts; starts = T.starts ++ start_of T.starts (length T.terms) (node_numbers n) ∷ []; bounds = T.bounds ++ is_bound_node T.bounds n ∷ [] }) place rest) (sym added.1)
+    ∙ (ap (λ ss. Found (record { terms = new; starts = ss; bounds = T.bounds ++ is_bound_node T.bounds n ∷ [] }) place rest) (sym begins)
+    ∙ ap (λ bs. Found (record { terms = new; starts = starts; bounds = bs }) place rest) (sym binds))))
 
 -- the starts with that of the node
 pub starts_on : (ss starts now : List ℕ) (start nodes many : ℕ) (ns : List ℕ) → starts ≡ ss ++ start ∷ [] → start ≡ start_of now nodes ns → now ≡ ss → nodes ≡ many → starts ≡ ss ++ start_of ss many ns ∷ []

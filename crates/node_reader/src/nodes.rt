@@ -1,18 +1,19 @@
 //! Nodes.
 
-ghost use Rattle.std.specs.Prelude.{◌≡◌, ℕ, suc, IfOk, IfSome};
+ghost use Rattle.std.specs.Prelude.{◌≡◌, ◌<◌, ℕ, suc, IfOk, IfSome};
+ghost use Rattle.spec_certificate_text.specs.Outcomes.{front};
 ghost use Rattle.term_tree.specs.Bank.{symbol_of};
 ghost use Rattle.term_reader.specs.Naming.{protocol_in};
-ghost use Rattle.fact_reader.specs.Reads.{Reads};
+ghost use Rattle.fact_reader.specs.Reads.{left_of, Reads};
 ghost use Rattle.spec_node_reading.specs.ReadNodes as reading;
-ghost use Rattle.spec_node_counts.specs.Nodes.{read_attackers, read_headed};
-ghost use Rattle.node_reader.specs.Seen.{body_of, HasNumbersOf, HasNodesBefore, NodeIs};
+ghost use Rattle.spec_node_counts.specs.Nodes.{read_attackers, read_bound_node, read_headed};
+ghost use Rattle.node_reader.specs.Seen.{head_of, body_of, HasNumbersOf, HasNodesBefore, NodeIs};
 
 use crate::heads::{Head, read_head};
-use crate::numbers::{Numbers, one_number, spaced_numbers};
+use crate::numbers::{Numbers, no_numbers, one_number, spaced_numbers};
 use fact_reader::{CertError, Cursor};
 use limits::MOST_ARGUMENTS;
-use term_reader::{Named, Names, with_parts};
+use term_reader::{FIRST_BOUND, Named, Names, with_parts};
 use term_tree::Sym;
 
 /// What a node has, and its numbers.
@@ -47,6 +48,30 @@ fn attackers(names: &Names<'_>, cursor: &mut Cursor<'_>, nodes: usize) -> Result
     })
 }
 
+/// The bound variable of a number that stands there.
+#[tactic(auto, using(crate::proofs::BoundNodes::short))]
+fn bound_number(cursor: &mut Cursor<'_>) -> Result<Head, CertError>
+    ensures read { Reads head_of reading.read_bound cursor.old cursor.new result }
+    ensures same { cursor.new.bytes.now ≡ cursor.old.bytes.now }
+{
+    let number = cursor.number()?;
+    Ok(Head::Variable(FIRST_BOUND + number))
+}
+
+/// A bound variable.
+#[tactic(auto, using(fact_reader::proofs::Places::drop_next))]
+fn bound(names: &Names<'_>, cursor: &mut Cursor<'_>) -> Result<Body, CertError>
+    requires { 0 < front (left_of cursor.old) }
+    ensures read { Reads body_of read_bound_node cursor.old cursor.new result }
+    ensures same { cursor.new.bytes.now ≡ cursor.old.bytes.now }
+    ensures within { (nodes : ℕ) → IfOk result (λ body. HasNumbersOf nodes body.numbers) }
+{
+    cursor.at += 1;
+    let head = bound_number(cursor)?;
+    let numbers = no_numbers(names.alloc);
+    Ok(Body { head, numbers })
+}
+
 /// A head, and numbers behind it.
 fn headed(names: &Names<'_>, cursor: &mut Cursor<'_>, nodes: usize) -> Result<Body, CertError>
     ensures read { Reads body_of (read_headed (protocol_in names.now) (suc nodes))
@@ -71,10 +96,12 @@ pub fn read_body(
     ensures within { IfOk result (λ body. HasNumbersOf nodes body.numbers) }
 {
     if cursor.front() == b'@' {
-        attackers(names, cursor, nodes)
-    } else {
-        headed(names, cursor, nodes)
+        return attackers(names, cursor, nodes);
     }
+    if cursor.front() == b'?' {
+        return bound(names, cursor);
+    }
+    headed(names, cursor, nodes)
 }
 
 /// Whether a symbol may have so many numbers: a tuple two at least.

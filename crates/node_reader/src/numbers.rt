@@ -88,6 +88,15 @@ pub fn spaced_numbers(
     Ok(found)
 }
 
+/// No numbers.
+pub fn no_numbers(alloc: Global) -> Numbers
+    ensures { numbers_of result ≡ [] }
+{
+    Numbers {
+        items: Vec::new(alloc),
+    }
+}
+
 /// One such number.
 pub fn one_number(
     alloc: Global,

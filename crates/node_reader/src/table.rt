@@ -12,6 +12,7 @@ ghost use Rattle.spec_node_tables.specs.Text.{node_numbers};
 ghost use Rattle.node_reader.specs.Seen.{node_of, HasNodesBefore};
 ghost use Rattle.node_reader.specs.Tables.{table_of};
 
+use crate::bounds::{bound_at, is_bound_node};
 use crate::nodes::{Body, TableNode, node, read_body};
 use crate::numbers::ids_of;
 use crate::row::{start_at, start_of};
@@ -22,12 +23,13 @@ use term_reader::Names;
 use term_store::SharedBank;
 use term_tree::{Bank, Id};
 
-/// The nodes that were read: the term of each, that of number n at place n - 1 of the bank, and from where a walk through it may
-/// begin.
+/// The nodes that were read: the term of each, that of number n at place n - 1 of the bank, from where a walk through it may begin,
+/// and whether a bound variable stands in its term.
 #[derive(Drop)]
 pub struct Table {
     pub bank: SharedBank,
     pub starts: Vec<u32>,
+    pub bounds: Vec<bool>,
 }
 
 /// No nodes.
@@ -36,7 +38,12 @@ fn no_nodes(alloc: Global) -> Result<Table, AllocError>
 {
     let bank = SharedBank::new(alloc)?;
     let starts = Vec::new(alloc);
-    Ok(Table { bank, starts })
+    let bounds = Vec::new(alloc);
+    Ok(Table {
+        bank,
+        starts,
+        bounds,
+    })
 }
 
 /// The id of the node's term.
@@ -101,6 +108,13 @@ impl Table {
         start_at(&self.starts, number)
     }
 
+    /// Whether a bound variable stands in the term of the node of that number.
+    pub fn is_bound(&self, number: usize) -> bool
+        ensures { result ≡ reading.bound_at (table_of self.now).bounds number }
+    {
+        bound_at(&self.bounds, number)
+    }
+
     /// Adds a node that was read at the place: it stands nowhere before, and is within the limit of size.
     #[tactic(auto, using(crate::proofs::Terms::adding))]
     fn add(&mut self, alloc: Global, from: usize, node: &TableNode) -> Result<(), CertError>
@@ -111,6 +125,7 @@ impl Table {
         let nodes = self.len();
         let start = start_of_node(&self.starts, nodes, node);
         let small = in_32_bits(start)?;
+        let is_bound = is_bound_node(&self.bounds, node);
         let id = put(alloc, &mut self.bank, node)?;
         if self.len() == nodes {
             return Err(CertError::NodeOrder(from));
@@ -119,6 +134,7 @@ impl Table {
             return Err(CertError::NodeLarge(from));
         }
         self.starts.push(small)?;
+        self.bounds.push(is_bound)?;
         Ok(())
     }
 

@@ -1,18 +1,17 @@
 //! Whether clauses are too large for a table: their symbols are counted up to each term, as long as they are within the limits.
 
-ghost use Rattle.std.specs.Prelude.{◌≡◌, ◌-◌, map};
+ghost use Rattle.std.specs.Prelude.{◌≡◌, map};
 ghost use Rattle.std.specs.Rc.{rc_value};
 ghost use Rattle.spec_trees.specs.Tree.{size};
-ghost use Rattle.spec_clauses.specs.Diff.{diff_size};
 ghost use Rattle.spec_clauses.specs.Fact.{total};
 ghost use Rattle.spec_clauses.specs.Head.{head_of, head_size};
-ghost use Rattle.spec_node_tables.specs.Table.{facts_in_order};
-ghost use Rattle.spec_node_tables.specs.Large.{is_large_in_nodes};
+ghost use Rattle.spec_node_tables.specs.Large.{fact_piece, diff_piece, pieces, is_large_in_nodes};
 ghost use Rattle.clause_form.specs.Plain.{term_of};
 ghost use Rattle.clause_form.specs.PlainFacts.{plain_fact_of};
-ghost use Rattle.node_table.specs.Room.{room_less, room_behind_fact, room_behind_facts, room_behind_next};
+ghost use Rattle.node_table.specs.Room.{room_less, room_behind_piece, room_behind_pieces, room_behind_rest, room_behind_next};
 
-use clause_form::{PlainClause, PlainDiff, PlainFact, PlainFacts, Tree};
+use clause_diffs::{PlainDiff, PlainDiffs};
+use clause_form::{PlainClause, PlainFact, PlainFacts, Tree};
 use limits::{MOST_REPORT_BYTES, MOST_SYMBOLS};
 use std::rc::Rc;
 
@@ -67,7 +66,7 @@ fn head_symbols(fact: &PlainFact) -> u64
 
 /// Room for so many symbols, less those of a fact; none where there are too many up to one of its terms.
 fn room_behind_fact(fact: &PlainFact, room: u64) -> Option<u64>
-    ensures { result ≡ room_behind_fact room (plain_fact_of fact.now) }
+    ensures { result ≡ room_behind_piece room (fact_piece (plain_fact_of fact.now)) }
 {
     let left = room.saturating_sub(head_symbols(fact));
     match fact {
@@ -85,7 +84,7 @@ fn room_behind_fact(fact: &PlainFact, room: u64) -> Option<u64>
 
 /// Room for so many symbols, less those of facts; none where there are too many up to one of their terms.
 fn room_behind_facts(facts: &PlainFacts, room: u64) -> Option<u64>
-    ensures { result ≡ room_behind_facts room facts.now }
+    ensures { result ≡ room_behind_pieces room (map fact_piece facts.now) }
 {
     let mut left = room;
     'each: for fact in &facts.items {
@@ -97,49 +96,58 @@ fn room_behind_facts(facts: &PlainFacts, room: u64) -> Option<u64>
     Some(left)
 }
 
-/// Room for so many symbols, less those of trees; 0 where these have more.
-fn less_trees(trees: &[Tree], room: u64) -> u64
-    ensures { result ≡ room - total size (map term_of trees.now) }
+/// Room for so many symbols, less those of a constraint; none where there are too many up to one of its terms.
+fn room_behind_diff(diff: &PlainDiff, room: u64) -> Option<u64>
+    ensures { result ≡ room_behind_piece room (diff_piece diff.now) }
 {
-    match room_behind_trees(trees, room) {
-        Some(left) => left,
-        None => 0,
-    }
-}
-
-/// Room for so many symbols, less those of a constraint; 0 where it has more.
-fn less_diff(diff: &PlainDiff, room: u64) -> u64
-    ensures { result ≡ room - diff_size diff.now }
-{
-    let left = less_trees(&diff.left.items, room.saturating_sub(1));
-    less_trees(&diff.right.items, left)
-}
-
-/// Room for so many symbols, less those of a clause's constraints; 0 where these have more.
-fn room_behind_diffs(clause: &PlainClause, room: u64) -> u64
-    ensures { result ≡ room - total diff_size clause.now.diffs }
-{
-    let mut left = room;
-    'each: for diff in &clause.diffs.items {
-        left = less_diff(diff, left);
-    }
-    left
-}
-
-/// Room for so many symbols, less those of a clause's facts; none where there are too many up to one of its terms.
-fn room_behind_clause(clause: &PlainClause, room: u64) -> Option<u64>
-    ensures { result ≡ room_behind_facts room (facts_in_order clause.now) }
-{
-    match room_behind_facts(&clause.hyps, room) {
-        Some(left) => room_behind_fact(&clause.concl, left),
+    match room_behind_trees(&diff.left.items, room.saturating_sub(1)) {
+        Some(left) => room_behind_trees(&diff.right.items, left),
         None => None,
     }
 }
 
-/// Room for so many symbols of all clauses, less those of this one's facts; none where there are too many up to one of its
+/// Room for so many symbols, less those of constraints; none where there are too many up to one of their terms.
+fn room_behind_diffs(diffs: &PlainDiffs, room: u64) -> Option<u64>
+    ensures { result ≡ room_behind_pieces room (map diff_piece diffs.now) }
+{
+    let mut left = room;
+    'each: for diff in &diffs.items {
+        match room_behind_diff(diff, left) {
+            Some(less) => left = less,
+            None => return None,
+        }
+    }
+    Some(left)
+}
+
+/// Room for so many symbols, less those of a clause's constraints and its conclusion; none where there are too many up to one of
+/// their terms.
+fn room_behind_rest(diffs: &PlainDiffs, concl: &PlainFact, room: u64) -> Option<u64>
+    ensures { result ≡ room_behind_rest diffs.now (plain_fact_of concl.now) room }
+{
+    if diffs.items.is_empty() {
+        return room_behind_fact(concl, room);
+    }
+    match room_behind_diffs(diffs, room) {
+        Some(left) => room_behind_fact(concl, left),
+        None => None,
+    }
+}
+
+/// Room for so many symbols, less those of a clause; none where there are too many up to one of its terms.
+fn room_behind_clause(clause: &PlainClause, room: u64) -> Option<u64>
+    ensures { result ≡ room_behind_pieces room (pieces clause.now) }
+{
+    match room_behind_facts(&clause.hyps, room) {
+        Some(left) => room_behind_rest(&clause.diffs, &clause.concl, left),
+        None => None,
+    }
+}
+
+/// Room for so many symbols of all clauses, less those of this one; none where there are too many up to one of its
 /// terms, of the clause alone or of all. One walk tells where it leaves room.
 fn room_behind_next(clause: &PlainClause, room: u64) -> Option<u64>
-    ensures { result ≡ room_behind_next room (facts_in_order clause.now) }
+    ensures { result ≡ room_behind_next room (pieces clause.now) }
 {
     let least = room.min(MOST_SYMBOLS);
     match room_behind_clause(clause, least) {
@@ -159,7 +167,7 @@ pub fn is_large_in_nodes(clauses: &[Rc<PlainClause>]) -> bool
     let mut left = MOST_CERTIFICATE_SYMBOLS;
     'each: for clause in clauses {
         match room_behind_next(clause, left) {
-            Some(less) => left = room_behind_diffs(clause, less),
+            Some(less) => left = less,
             None => return true,
         }
     }

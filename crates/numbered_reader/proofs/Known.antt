@@ -5,9 +5,12 @@ use Rattle.std.proofs.lemmas.List.{map-append}
 use Rattle.std.proofs.lemmas.Simd.{map-map}
 use Rattle.spec_terms.specs.Term.{Term}
 use Rattle.spec_clauses.specs.Fact as horn
-use Rattle.term_tree.specs.Bank.{AreKnown}
+use Rattle.term_tree.specs.Bank.{AreKnown, tree_at}
 use Rattle.term_tree.specs.declared.bank.Id.{Id}
-use Rattle.clause_diffs.specs.Diffs.{DiffOf}
+use Rattle.clause_diffs.specs.Diffs.{DiffOf, diff_at, diffs_at, IsDiffIn, AreDiffsIn}
+use Rattle.spec_clauses.specs.Diff.{Diff}
+use Rattle.spec_certificate_text.specs.Sides.{SidesOf, spelled_diff, meant_diff}
+use Rattle.spec_certificate_text.proofs.Sides.{diff_spelled}
 use Rattle.clause_form.specs.declared.facts.Fact.{Fact}
 use Rattle.clause_form.specs.Facts.{fact_of}
 use Rattle.clause_form.specs.Seen.{fact_at, clause_at, IsFactIn, AreFactsIn, IsClauseIn, AreClausesIn, IdClause}
@@ -16,7 +19,7 @@ use Rattle.fact_reader.specs.declared.terms.ReadFact.{ReadFact}
 use Rattle.fact_reader.specs.Over.{terms_in}
 
 -- ids that each name a tree, and facts
-known_ids : (all : List Term) (ids : List Id) → AllByRecursion (λ (id : Id). id.index < length all) ids → AreKnown all ids
+pub known_ids : (all : List Term) (ids : List Id) → AllByRecursion (λ (id : Id). id.index < length all) ids → AreKnown all ids
 known_ids all [] known = tt
 known_ids all (id ∷ ids) known = (known.0, known_ids all ids known.1)
 
@@ -28,22 +31,44 @@ facts_known : (all : List Term) (fs : List Fact) → AllByRecursion (λ (f : Fac
 facts_known all [] known = tt
 facts_known all (f ∷ fs) known = (known.0, facts_known all fs known.1)
 
--- the clause of facts that were read: of constraints it has none
+-- a constraint of sides that were read is what its own sides mean
+
+abbrev shown : List Term → List Id → List Id → SidesOf Term
+shown all left right = record { left = map (tree_at all) left; right = map (tree_at all) right }
+
+pub sides_back : (all : List Term) (left right : List Id) → spelled_diff (meant_diff (shown all left right)) ≡ shown all left right
+sides_back all left right = diff_spelled (shown all left right)
+
+pub diff_back : (all : List Term) (left right : List Id) → meant_diff (spelled_diff (meant_diff (shown all left right))) ≡ meant_diff (shown all left right)
+diff_back all left right = ap meant_diff (sides_back all left right)
+
+abbrev IsDiffRead : List Term → DiffOf Id → Type 0
+IsDiffRead all d = IsDiffIn all d × (meant_diff (spelled_diff (diff_at all d)) ≡ diff_at all d)
+
+diffs_back : (all : List Term) (ds : List (DiffOf Id)) → AllByRecursion (IsDiffRead all) ds → map meant_diff (map (λ (d : DiffOf Id). spelled_diff (diff_at all d)) ds) ≡ diffs_at all ds
+diffs_back all [] read = refl
+diffs_back all (d ∷ ds) read = let one = read.0.1 in let later = diffs_back all ds read.1 in λ i. one i ∷ later i
+
+diffs_known : (all : List Term) (ds : List (DiffOf Id)) → AllByRecursion (IsDiffRead all) ds → AreDiffsIn all ds
+diffs_known all [] read = tt
+diffs_known all (d ∷ ds) read = (read.0.0, diffs_known all ds read.1)
+
+-- the clause of facts and constraints that were read
 abbrev clause_read : List Fact → List (DiffOf Id) → Fact → IdClause
 clause_read hyps diffs concl = record { hypotheses = map fact_of hyps; diffs = diffs; conclusion = fact_of concl }
 
-abbrev clause_with : List (horn.Fact Term) → horn.Fact Term → horn.Clause Term
-clause_with hyps concl = record { hypotheses = hyps; diffs = []; conclusion = concl }
+abbrev clause_with : List (horn.Fact Term) → List Diff → horn.Fact Term → horn.Clause Term
+clause_with hyps diffs concl = record { hypotheses = hyps; diffs = diffs; conclusion = concl }
 
-pub clause_seen : (all : List Term) (hyps : List Fact) (diffs : List (DiffOf Id)) (concl : Fact) → diffs ≡ [] → clause_with (map (λ (f : Fact). fact_at all (fact_of f)) hyps) (fact_at all (fact_of concl)) ≡ clause_at all (clause_read hyps diffs concl)
-clause_seen all hyps diffs concl none =
-    ap (λ (hs : List (horn.Fact Term)). clause_with hs (fact_at all (fact_of concl))) (sym (map-map (fact_at all) fact_of hyps))
-    ∙ ap (λ (ds : List (DiffOf Id)). clause_at all (clause_read hyps ds concl)) (sym none)
+pub clause_seen : (all : List Term) (hyps : List Fact) (ds : List (DiffOf Id)) (concl : Fact) → AllByRecursion (IsDiffRead all) ds
+    → clause_with (map (λ (f : Fact). fact_at all (fact_of f)) hyps) (map meant_diff (map (λ (d : DiffOf Id). spelled_diff (diff_at all d)) ds)) (fact_at all (fact_of concl)) ≡ clause_at all (clause_read hyps ds concl)
+clause_seen all hyps ds concl read =
+    let first = sym (map-map (fact_at all) fact_of hyps) in
+    let second = diffs_back all ds read in
+    λ i. clause_with (first i) (second i) (fact_at all (fact_of concl))
 
-pub clause_known : (all : List Term) (hyps : List Fact) (diffs : List (DiffOf Id)) (concl : Fact) → diffs ≡ [] → AllByRecursion (λ (f : Fact). IsFactIn all (fact_of f)) hyps → IsFactIn all (fact_of concl) → IsClauseIn all (clause_read hyps diffs concl)
-clause_known all hyps diffs concl none some one =
-    subst (λ (ds : List (DiffOf Id)). IsClauseIn all (clause_read hyps ds concl)) (sym none)
-    record { hypotheses = facts_known all hyps some; diffs = tt; conclusion = one }
+pub clause_known : (all : List Term) (hyps : List Fact) (ds : List (DiffOf Id)) (concl : Fact) → AllByRecursion (IsDiffRead all) ds → AllByRecursion (λ (f : Fact). IsFactIn all (fact_of f)) hyps → IsFactIn all (fact_of concl) → IsClauseIn all (clause_read hyps ds concl)
+clause_known all hyps ds concl read some one = record { hypotheses = facts_known all hyps some; diffs = diffs_known all ds read; conclusion = one }
 
 pub clauses_on : (all : List Term) (cs longer : List IdClause) (c : IdClause) → longer ≡ cs ++ c ∷ [] → map (clause_at all) longer ≡ map (clause_at all) cs ++ clause_at all c ∷ []
 clauses_on all cs longer c is = ap (map (clause_at all)) is ∙ map-append (clause_at all) cs (c ∷ [])

@@ -35,7 +35,7 @@ fn clause(
     let read = read_clause_by(names, &NumberedTerms { table }, cursor, walked)?;
     Ok(Clause {
         hyps: Facts { items: read.hyps },
-        diffs: Diffs::new(names.alloc),
+        diffs: Diffs { items: read.diffs },
         concl: read.concl,
     })
 }

@@ -97,16 +97,24 @@ fn is_next(table: &Table, walked: Walked, number: usize) -> bool
         && (number <= walked.reached || table.start(number) <= walked.reached)
 }
 
-/// The term of the number that stands there.
+/// The term of the number that stands there: outside of constraints no bound variable stands in it.
 #[tactic(auto, using(crate::proofs::Symbols::symbols))]
-pub fn term(table: &Table, cursor: &mut Cursor<'_>, walked: &mut Walked) -> Result<Id, CertError>
-    ensures read { let T = table_of table.now in Walks (tree_at T.terms) (reading.read_term T)
+pub fn tree(
+    table: &Table,
+    cursor: &mut Cursor<'_>,
+    walked: &mut Walked,
+    binds: bool,
+) -> Result<Id, CertError>
+    ensures read { let T = table_of table.now in Walks (tree_at T.terms) (reading.read_tree binds T)
         walked.old walked.new cursor.old cursor.new result }
     ensures same { cursor.new.bytes.now ≡ cursor.old.bytes.now }
     ensures known { IfOk result (λ id. id.index < length (table_of table.now).terms) }
 {
     let from = cursor.at;
     let number = cursor.number()? as usize;
+    if !binds && table.is_bound(number) {
+        return Err(CertError::Symbol(from));
+    }
     if !is_next(table, *walked, number) {
         return Err(CertError::NodeOrder(from));
     }

@@ -39,7 +39,7 @@ use Rattle.process_visits.specs.Spans.{IsSpan}
 use Rattle.process_visits.specs.Visits.{visit_at, IsVisitIn, NamesVisit}
 use Rattle.process_visits.specs.Entries.{WithEntry, met_choice, IsEntryWay, EntryGoes}
 use Rattle.process_visits.specs.Solving.{AreSolved, HasBelow}
-use Rattle.process_visits.proofs.Named.{all_below_more, below_parts, below_visit_more, scope_later, hypotheses_later, messages_later, sessions_later, visit_later, visit_named}
+use Rattle.process_visits.proofs.Named.{all_below_more, below_parts, below_visit_more, scope_later, hypotheses_later, messages_later, sessions_later, diffs_later, visit_later, visit_named}
 use Rattle.process_visits.proofs.Below.{pattern_below, bound_below, term_in_below}
 use Rattle.process_visits.proofs.Happening.{facts_below}
 use Rattle.process_visits.proofs.Receiving.{scope_append}
@@ -76,7 +76,7 @@ known_append : (all : List Term) (xs ys : List Id) → AreKnown all xs → AreKn
 known_append all [] ys known more = more
 known_append all (x ∷ xs) ys known more = (known.0, known_append all xs ys known.1 more)
 
-terms_append : (all : List Term) (xs ys : List Id) (ts us : List Term) → NameTerms all xs ts → NameTerms all ys us → NameTerms all (xs ++ ys) (ts ++ us)
+pub terms_append : (all : List Term) (xs ys : List Id) (ts us : List Term) → NameTerms all xs ts → NameTerms all ys us → NameTerms all (xs ++ ys) (ts ++ us)
 terms_append all xs ys ts us names more = record {
   known = known_append all xs ys names.known more.known;
   are = map-append (tree_at all) xs ys ∙ (λ i. names.are i ++ more.are i);
@@ -106,7 +106,7 @@ entered P old mid new v scoped made span table ps ids bound grows later through 
           (scope_append new v.scope bound w.scope (pattern_scope at (row_pattern ps)) (scope_later old new v through known) names)
           (NameFacts-push new v.hypotheses w.hypotheses (Tab table ids) (Tab table us) (hypotheses_later old new v through known) record { known = entries.known; is = λ i. Tab table (entries.are i) })
           (terms_append new v.messages ids w.messages us (messages_later old new v through known) entries)
-          (sessions_later old new v through known) (refl, refl)
+          (sessions_later old new v through known) (diffs_later old new v through known) refl
           record {
             scope = subst (λ (l : List Term). AreBelow span.next l) (sym (map-append (λ b. b.term) w.scope (pattern_scope at (row_pattern ps))))
                 (all_append (IsBelow span.next) (map (λ b. b.term) w.scope) (map (λ b. b.term) (pattern_scope at (row_pattern ps))) below.scope (bound_below span.next at (leaves (row_pattern ps)) own.room));

@@ -12,22 +12,22 @@ use Rattle.spec_translation.specs.Visit.{Visit, is_large_visit, after_event}
 use Rattle.term_tree.specs.Bank.{tree_at, AreKnown}
 use Rattle.term_tree.specs.declared.bank.Id.{Id}
 use Rattle.term_tree.proofs.BankLaws.{Grows_refl}
-use Rattle.clause_form.specs.Seen.{NamesFact, NamesClause, IdClause}
+use Rattle.clause_form.specs.Seen.{NamesFact, IdClause}
 use Rattle.clause_form.proofs.Copying.{NameFacts-push}
 use Rattle.process_visits.specs.declared.visit.Visit as source
 use Rattle.process_visits.specs.declared.listing.Listing.{Listing}
-use Rattle.process_visits.specs.Forms.{Adds, raw_event, below_event, event_raw, is_large_event, are_large_in, IsSmallVisit, EventAdds}
+use Rattle.process_visits.specs.Forms.{Adds, raw_event, below_event, event_raw, is_large_event, are_large_in, IsSmallVisit, ShowsClause, EventAdds}
 use Rattle.process_visits.specs.Visits.{visit_at, IsVisitIn, NamesVisit}
-use Rattle.process_visits.proofs.Named.{below_parts, scope_later, hypotheses_later, messages_later, sessions_later, visit_named}
+use Rattle.process_visits.proofs.Named.{below_parts, scope_later, hypotheses_later, messages_later, sessions_later, diffs_later, visit_named}
 use Rattle.process_visits.proofs.Adding.{raw_named}
 
 event_fact : (all : List Term) (event : ℕ) (ids : List Id) → AreKnown all ids → NamesFact all (Ev event ids) (Ev event (map (tree_at all) ids))
 event_fact all event ids known = record { known = known; is = refl }
 
-pub event_named : (all : List Term) (v : source.Visit) (event : ℕ) (ids : List Id) (raw : IdClause) → IsVisitIn all v → AreKnown all ids → raw ≡ record { hypotheses = v.hypotheses; diffs = []; conclusion = Ev event ids } → NamesClause all raw (raw_event (visit_at all v) event (map (tree_at all) ids))
+pub event_named : (all : List Term) (v : source.Visit) (event : ℕ) (ids : List Id) (raw : IdClause) → IsVisitIn all v → AreKnown all ids → raw ≡ record { hypotheses = v.hypotheses; diffs = v.diffs; conclusion = Ev event ids } → ShowsClause all raw (raw_event (visit_at all v) event (map (tree_at all) ids))
 event_named all v event ids raw known args e =
-    subst (λ (c : IdClause). NamesClause all c (raw_event (visit_at all v) event (map (tree_at all) ids))) (sym e)
-    (raw_named all v.hypotheses (Ev event ids) (visit_at all v) (Ev event (map (tree_at all) ids)) (hypotheses_later all all v (Grows_refl all) known) (event_fact all event ids args) refl)
+    subst (λ (c : IdClause). ShowsClause all c (raw_event (visit_at all v) event (map (tree_at all) ids))) (sym e)
+    (raw_named all v.hypotheses v.diffs (Ev event ids) (visit_at all v) (Ev event (map (tree_at all) ids)) (hypotheses_later all all v (Grows_refl all) known) (diffs_later all all v (Grows_refl all) known) (event_fact all event ids args))
 
 -- one more fact's variables
 pub facts_below : (n : ℕ) (fs : List (Fact Term)) (f : Fact Term) → AreBelow n (flat_map terms_of fs) → AreBelow n (terms_of f) → AreBelow n (flat_map terms_of (fs ++ f ∷ []))
@@ -43,7 +43,7 @@ evented all v event ids made known args below e =
     subst (λ (m : source.Visit). NamesVisit all m (below_event (visit_at all v) event (map (tree_at all) ids))) (sym e)
     (visit_named all whole (below_event (visit_at all v) event (map (tree_at all) ids)) (scope_later all all v (Grows_refl all) known)
     (NameFacts-push all v.hypotheses (visit_at all v).hypotheses (Mev event ids) (Mev event (map (tree_at all) ids)) (hypotheses_later all all v (Grows_refl all) known) record { known = args; is = refl })
-    (messages_later all all v (Grows_refl all) known) (sessions_later all all v (Grows_refl all) known) (refl, refl)
+    (messages_later all all v (Grows_refl all) known) (sessions_later all all v (Grows_refl all) known) (diffs_later all all v (Grows_refl all) known) refl
     record {
       scope = parts.scope;
       hypotheses = facts_below v.next (visit_at all v).hypotheses (Mev event (map (tree_at all) ids)) parts.hypotheses below;

@@ -6,6 +6,7 @@ pub mod Under
 pub mod Facts
 pub mod Scopes
 pub mod Named
+pub mod ButForDiffs
 pub mod Listings
 pub mod Below
 pub mod Adding
@@ -15,10 +16,17 @@ pub mod Solving
 pub mod Standing
 pub mod Building
 pub mod Parts
+pub mod Lifting
+pub mod Blocks
 pub mod Choosing
 pub mod Entering
 pub mod RuledRows
+pub mod SideRows
 pub mod Counting
 pub mod Walking
+pub mod SideWalking
+pub mod SideListing
+pub mod Fitting
+pub mod Excluded
 pub mod Passing
 pub mod Courses

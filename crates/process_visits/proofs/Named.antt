@@ -1,24 +1,26 @@
 -- Visits of a bank that grows, and visits made from visits.
-use Rattle.std.proofs.Common.{◌≡◌, ℕ, ◌+◌, ◌<◌, ◌≤◌, Ok, Err, Result, List, [], ◌∷◌, ◌++◌, length, map, refl, sym, subst, ◌∙◌, arith}
+use Rattle.std.proofs.Common.{◌≡◌, ℕ, ◌+◌, ◌<◌, ◌≤◌, Ok, Err, Result, List, [], ◌∷◌, ◌++◌, length, map, refl, ap, sym, subst, ◌∙◌, arith}
 use Rattle.std.specs.Prelude.{flat_map, IfOk}
 use Rattle.std.proofs.lemmas.List.{map-append, length-append}
 use Rattle.spec_trees.specs.Tree.{Leaf, node, trees}
 use Rattle.spec_calculus.specs.Syntax.{Name, Made}
 use Rattle.spec_terms.specs.Term.{Point, Sym, Term}
 use Rattle.spec_clauses.specs.Fact.{terms_of}
-use Rattle.spec_clauses.specs.Diff.{diff_variables}
+use Rattle.spec_clauses.specs.Diff.{Diff, diff_variables, numbered_diff}
 use Rattle.spec_clauses.specs.Variables.{leaves, row_leaves, IsBelow, AreBelow}
 use Rattle.spec_clauses.proofs.Lists.{all_append, all_first, all_second, all_weaker}
 use Rattle.spec_translation.specs.Conversion.{Scope, name_term}
 use Rattle.spec_translation.specs.Visit.{Visit, visit_terms, after_copy, after_phase, after_new}
 use Rattle.term_tree.specs.Bank.{tree_at, Names, Grows}
 use Rattle.term_tree.specs.declared.bank.Id.{Id}
+use Rattle.clause_diffs.specs.Diffs.{DiffOf, diffs_at}
+use Rattle.clause_diffs.proofs.Naming.{AreDiffsIn-grows, diffs_at-grow}
 use Rattle.clause_form.specs.Seen.{fact_at, NameTerms, NameFacts}
 use Rattle.clause_form.proofs.Copying.{NameTerms-grows, NameTerms-push, NameFacts-grows}
 use Rattle.clause_terms.specs.Scopes.{Held, scope_at, IsScopeIn, NamesScope}
 use Rattle.process_visits.specs.declared.visit.Visit as source
 use Rattle.process_visits.specs.Room.{most_next}
-use Rattle.process_visits.specs.Visits.{visit_at, IsVisitIn, NamesVisit}
+use Rattle.process_visits.specs.Visits.{visit_at, IsVisitIn, NamesVisit, ShowDiffs}
 use Rattle.process_visits.proofs.Scopes.{NamesScope-grows}
 
 -- what holds of an answer, by what holds of it
@@ -77,19 +79,20 @@ below_visit_more n m v up b = record {
   diffs = all_below_more n m up (constrained v) b.diffs;
 }
 
--- a visit in the phase, without constraints
-abbrev pub IsInPhase : ℕ → Visit → Type 0
-IsInPhase phase v = ([] ≡ v.diffs) × (phase ≡ v.phase)
+-- constraints in a bank that grew
+pub ShowDiffs-grows : (old now : List Term) (ds : List (DiffOf Id)) (trees : List Diff) → Grows old now → ShowDiffs old ds trees → ShowDiffs now ds trees
+ShowDiffs-grows old now ds trees grows show = record { known = AreDiffsIn-grows old now ds grows show.known; are = ap (map numbered_diff) (diffs_at-grow old now ds grows show.known) ∙ show.are }
 
--- such a visit whose parts are named is
+-- a visit whose parts are named is
 pub visit_named : (all : List Term) (made : source.Visit) (v : Visit) → NamesScope all made.scope v.scope → NameFacts all made.hypotheses v.hypotheses → NameTerms all made.messages v.messages → NameTerms all made.sessions v.sessions
-    → IsInPhase made.phase v → Below made.next v → made.next ≤ most_next + length made.sessions → NamesVisit all made v
-visit_named all made v scope hypotheses messages sessions first below room =
-    let is : visit_at all made ≡ v = λ i. record { scope = scope.is i; hypotheses = hypotheses.are i; diffs = first.0 i; messages = messages.are i; sessions = sessions.are i; phase = first.1 i } in
+    → ShowDiffs all made.diffs v.diffs → made.phase ≡ v.phase → Below made.next v → made.next ≤ most_next + length made.sessions → NamesVisit all made v
+visit_named all made v scope hypotheses messages sessions diffs phase below room =
+    let is : visit_at all made ≡ v = λ i. record { scope = scope.is i; hypotheses = hypotheses.are i; diffs = diffs.are i; messages = messages.are i; sessions = sessions.are i; phase = phase i } in
     record {
       known = record {
         scope = scope.known;
         hypotheses = hypotheses.known;
+        diffs = diffs.known;
         messages = messages.known;
         sessions = sessions.known;
         below = subst (λ (w : Visit). AreBelow made.next (visit_terms w)) (sym is) (joined made.next v below);
@@ -112,11 +115,14 @@ module _ (old now : List Term) (v : source.Visit) (grows : Grows old now) (known
   pub sessions_later : NameTerms now v.sessions (visit_at old v).sessions
   sessions_later = NameTerms-grows old now v.sessions (map (tree_at old) v.sessions) grows record { known = known.sessions; are = refl }
 
+  pub diffs_later : ShowDiffs now v.diffs (visit_at old v).diffs
+  diffs_later = ShowDiffs-grows old now v.diffs (map numbered_diff (diffs_at old v.diffs)) grows record { known = known.diffs; are = refl }
+
   pub below_parts : Below v.next (visit_at old v)
   below_parts = parted v.next (visit_at old v) known.below
 
   pub visit_later : NamesVisit now v (visit_at old v)
-  visit_later = visit_named now v (visit_at old v) scope_later hypotheses_later messages_later sessions_later (refl, refl) below_parts known.room
+  visit_later = visit_named now v (visit_at old v) scope_later hypotheses_later messages_later sessions_later diffs_later refl below_parts known.room
 
 pub NamesVisit-grows : (old now : List Term) (v : source.Visit) (tree : Visit) → Grows old now → NamesVisit old v tree → NamesVisit now v tree
 NamesVisit-grows old now v tree grows names = subst (λ (w : Visit). NamesVisit now v w) names.is (visit_later old now v grows names.known)
@@ -126,7 +132,7 @@ pub phased : (all : List Term) (v made : source.Visit) (phase : ℕ) → IsVisit
 phased all v made phase known e =
     let whole : source.Visit = record v { phase = phase } in
     subst (λ (m : source.Visit). NamesVisit all m (after_phase (visit_at all v) phase)) (sym e) record {
-      known = record { scope = known.scope; hypotheses = known.hypotheses; messages = known.messages; sessions = known.sessions; below = known.below; room = known.room };
+      known = record { scope = known.scope; hypotheses = known.hypotheses; diffs = known.diffs; messages = known.messages; sessions = known.sessions; below = known.below; room = known.room };
       is = refl;
     }
 
@@ -137,7 +143,7 @@ copied old now v session next grows known names e =
     let up : v.next ≤ next = omega (arith, e) in
     let below = below_visit_more v.next next (visit_at old v) up (below_parts old now v grows known) in
     visit_named now (record v { sessions = v.sessions ++ session ∷ []; next = next }) (after_copy (visit_at old v) v.next) (scope_later old now v grows known) (hypotheses_later old now v grows known) (messages_later old now v grows known)
-    (NameTerms-push now v.sessions (visit_at old v).sessions session (Leaf v.next) (sessions_later old now v grows known) names) (refl, refl)
+    (NameTerms-push now v.sessions (visit_at old v).sessions session (Leaf v.next) (sessions_later old now v grows known) names) (diffs_later old now v grows known) refl
     record {
       scope = below.scope;
       hypotheses = below.hypotheses;
@@ -173,7 +179,7 @@ restricted old now v term point grows known names =
     let t = name_term point (visit_at old v).messages (visit_at old v).sessions in
     visit_named now (record v { scope = v.scope ++ record { name = Made point; id = term } ∷ [] }) (after_new (visit_at old v) point)
     (NamesScope-push now v.scope (visit_at old v).scope (Made point) term t (scope_later old now v grows known) names)
-    (hypotheses_later old now v grows known) (messages_later old now v grows known) (sessions_later old now v grows known) (refl, refl)
+    (hypotheses_later old now v grows known) (messages_later old now v grows known) (sessions_later old now v grows known) (diffs_later old now v grows known) refl
     record {
       scope = subst (λ (l : List Term). AreBelow v.next l) (sym (map-append (λ b. b.term) (visit_at old v).scope (record { name = Made point; term = t } ∷ [])))
           (all_append (IsBelow v.next) (map (λ b. b.term) (visit_at old v).scope) (t ∷ []) below.scope (name_below v.next point (visit_at old v).messages (visit_at old v).sessions below.messages below.sessions, tt));

@@ -27,7 +27,7 @@ use Rattle.process_visits.specs.Visits.{visit_at, IsVisitIn, NamesVisit}
 use Rattle.process_visits.specs.Forms.{are_large_in, IsLargeInput, Receives}
 use Rattle.process_visits.specs.Forms as forms
 use Rattle.process_visits.specs.Patterns.{WithPattern}
-use Rattle.process_visits.proofs.Named.{below_more, below_parts, below_visit_more, all_below_more, scope_later, hypotheses_later, messages_later, sessions_later, visit_named, visit_later, parted}
+use Rattle.process_visits.proofs.Named.{below_more, below_parts, below_visit_more, all_below_more, scope_later, hypotheses_later, messages_later, sessions_later, diffs_later, visit_named, visit_later, parted}
 use Rattle.process_visits.proofs.Below.{pattern_below, bound_below, term_in_below}
 use Rattle.process_visits.proofs.Happening.{facts_below}
 
@@ -51,7 +51,7 @@ bound_named old now v made span pattern bound grows known up is_span names e =
     subst (λ (m : source.Visit). NamesVisit now m (with_pattern (visit_at old v) pattern (fresh_of span.at))) (sym e)
     (visit_named now whole (with_pattern (visit_at old v) pattern (fresh_of span.at))
     (scope_append now v.scope bound (visit_at old v).scope (pattern_scope (fresh_of span.at) pattern) (scope_later old now v grows known) names)
-    (hypotheses_later old now v grows known) (messages_later old now v grows known) (sessions_later old now v grows known) (refl, refl)
+    (hypotheses_later old now v grows known) (messages_later old now v grows known) (sessions_later old now v grows known) (diffs_later old now v grows known) refl
     record {
       scope = subst (λ (l : List Term). AreBelow span.next l) (sym (map-append (λ b. b.term) (visit_at old v).scope (pattern_scope (fresh_of span.at) pattern)))
           (all_append (IsBelow span.next) (map (λ b. b.term) (visit_at old v).scope) (map (λ b. b.term) (pattern_scope (fresh_of span.at) pattern)) below.scope (bound_below span.next (fresh_of span.at) (leaves pattern) is_span.room));
@@ -106,7 +106,7 @@ module _ (P : Protocol) (v : Visit) (c : calculus.Term) (pattern : Pattern) (fro
       record { known = known.scope; is = λ i. (is i).scope }
       (NameFacts-push new w.hypotheses v.hypotheses fact (sent P v.phase (term_in P v.scope c) t) record { known = known.hypotheses; are = λ i. (is i).hypotheses } fact_is)
       (NameTerms-push new w.messages v.messages message t record { known = known.messages; are = λ i. (is i).messages } bound.term)
-      record { known = known.sessions; are = λ i. (is i).sessions } (λ i. (is i).diffs, λ i. (is i).phase)
+      record { known = known.sessions; are = λ i. (is i).sessions } record { known = known.diffs; are = λ i. (is i).diffs } (λ i. (is i).phase)
       record {
         scope = parts.scope;
         hypotheses = facts_below w.next v.hypotheses (sent P v.phase (term_in P v.scope c) t) parts.hypotheses (sent_below P w.next v.phase (term_in P v.scope c) t (below_more from w.next bound.up (term_in P v.scope c) below) bound.below);

@@ -41,10 +41,10 @@ known_last all zero ids known = known
 known_last all (suc n) [] known = tt
 known_last all (suc n) (id ∷ ids) known = known_last all n ids known.1
 
-named_first : (all : List Term) (n : ℕ) (ids : List Id) (ts : List Term) → NameTerms all ids ts → NameTerms all (take n ids) (take n ts)
+pub named_first : (all : List Term) (n : ℕ) (ids : List Id) (ts : List Term) → NameTerms all ids ts → NameTerms all (take n ids) (take n ts)
 named_first all n ids ts names = record { known = known_first all n ids names.known; are = sym (take-map (tree_at all) n ids) ∙ ap (take n) names.are }
 
-named_last : (all : List Term) (n : ℕ) (ids : List Id) (ts : List Term) → NameTerms all ids ts → NameTerms all (drop n ids) (drop n ts)
+pub named_last : (all : List Term) (n : ℕ) (ids : List Id) (ts : List Term) → NameTerms all ids ts → NameTerms all (drop n ids) (drop n ts)
 named_last all n ids ts names = record { known = known_last all n ids names.known; are = sym (drop-map (tree_at all) n ids) ∙ ap (drop n) names.are }
 
 module _ (P : Protocol) (w : source.Visit) (v : Visit) where

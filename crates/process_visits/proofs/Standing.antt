@@ -9,7 +9,8 @@ use Rattle.spec_trees.specs.Leaves.{leaves, row_leaves}
 use Rattle.spec_calculus.specs.Bounds.{most_symbols}
 use Rattle.spec_terms.specs.Term.{Sym, Term, Subst}
 use Rattle.spec_clauses.specs.Fact.{Fact, Att, Mess, Tab, Ev, Mev, Bad, terms_of, fact_under, fact_size, total}
-use Rattle.spec_clauses.specs.Diff.{Diff, diff_variables, diff_under}
+use Rattle.spec_clauses.specs.Diff.{Slot, Own, Bound, Side, Diff, own, own_of, sides, side_slots, slot_under, diff_variables, diff_under}
+use Rattle.std.proofs.lemmas.List.Concat.{flat_map-append}
 use Rattle.spec_clauses.specs.Variables.{IsBelow, AreBelow}
 use Rattle.spec_clauses.proofs.Lists.{all_append, all_first, all_second}
 use Rattle.spec_translation.specs.Conversion.{StandsFor, Scope}
@@ -112,6 +113,25 @@ scope_large v e = ap (λ b. b || list_any (λ h. not (nat_le (fact_size h) most_
 pub hypotheses_large : (v : Visit) → some_fact_over most_symbols v.hypotheses ≡ true → is_large_visit v ≡ true
 hypotheses_large v e = or_second (list_any (λ b. is_large_term b.term) v.scope) (list_any (λ h. not (nat_le (fact_size h) most_symbols)) v.hypotheses) (facts_over v.hypotheses e)
 
+-- the variables of a term as a side are the term's
+mutual
+  own_leaves : (t : Term) → flat_map own_of (leaves (own t)) ≡ leaves t
+  own_leaves (Leaf x) = refl
+  own_leaves (Node f ts) = own_row_leaves ts
+
+  own_row_leaves : (ts : Trees ℕ Sym) → flat_map own_of (row_leaves (binds (λ x. Leaf (Own x)) ts)) ≡ row_leaves ts
+  own_row_leaves none = refl
+  own_row_leaves (more t ts) = flat_map-append own_of (leaves (own t)) (row_leaves (binds (λ x. Leaf (Own x)) ts)) ∙ (λ i. own_leaves t i ++ own_row_leaves ts i)
+
+-- variables below a number are such terms, and back
+pub leaves_are : (n : ℕ) (xs : List ℕ) → AllByRecursion (λ x. x < n) xs → AreBelow n (map Leaf xs)
+leaves_are n [] b = tt
+leaves_are n (x ∷ xs) b = ((b.0, tt), leaves_are n xs b.1)
+
+pub leaves_were : (n : ℕ) (xs : List ℕ) → AreBelow n (map Leaf xs) → AllByRecursion (λ x. x < n) xs
+leaves_were n [] b = tt
+leaves_were n (x ∷ xs) b = (b.0.0, leaves_were n xs b.1)
+
 -- terms under a substitution stay below a number
 module _ (s : Subst) (n : ℕ) (below : HasBelow s n) where
   mutual
@@ -145,11 +165,51 @@ module _ (s : Subst) (n : ℕ) (below : HasBelow s n) where
   facts_below (f ∷ fs) b =
       all_append (IsBelow n) (terms_of (fact_under s f)) (flat_map terms_of (map (fact_under s) fs)) (fact_below f (all_first (IsBelow n) (terms_of f) (flat_map terms_of fs) b)) (facts_below fs (all_second (IsBelow n) (terms_of f) (flat_map terms_of fs) b))
 
-  pub visit_below : (v : Visit) → [] ≡ v.diffs → Below n v → Below n (visit_under s v)
-  visit_below v unconstrained b = record {
+  -- the clause's variables in sides of constraints
+  abbrev Low : List Slot → Type 0
+  Low ks = AllByRecursion (λ x. x < n) (flat_map own_of ks)
+
+  low_append : (ks ls : List Slot) → Low ks → Low ls → Low (ks ++ ls)
+  low_append ks ls b c = subst (AllByRecursion (λ x. x < n)) (sym (flat_map-append own_of ks ls)) (all_append (λ x. x < n) (flat_map own_of ks) (flat_map own_of ls) b c)
+
+  low_parts : (ks ls : List Slot) → Low (ks ++ ls) → Low ks × Low ls
+  low_parts ks ls b =
+      let parts = subst (AllByRecursion (λ x. x < n)) (flat_map-append own_of ks ls) b in
+      (all_first (λ x. x < n) (flat_map own_of ks) (flat_map own_of ls) parts, all_second (λ x. x < n) (flat_map own_of ks) (flat_map own_of ls) parts)
+
+  mutual
+    side_below : (t : Side) → Low (leaves t) → Low (leaves (bind (slot_under s) t))
+    side_below (Leaf (Own x)) b = subst (AllByRecursion (λ y. y < n)) (sym (own_leaves (s x))) (below x b.0)
+    side_below (Leaf (Bound i)) b = tt
+    side_below (Node f ts) b = side_row_below ts b
+
+    side_row_below : (ts : Trees Slot Sym) → Low (row_leaves ts) → Low (row_leaves (binds (slot_under s) ts))
+    side_row_below none b = tt
+    side_row_below (more t ts) b =
+        let parts = low_parts (leaves t) (row_leaves ts) b in
+        low_append (leaves (bind (slot_under s) t)) (row_leaves (binds (slot_under s) ts)) (side_below t parts.0) (side_row_below ts parts.1)
+
+  all_sides_below : (ts : List Side) → Low (side_slots ts) → Low (side_slots (map (bind (slot_under s)) ts))
+  all_sides_below [] b = tt
+  all_sides_below (t ∷ ts) b =
+      let parts = low_parts (leaves t) (side_slots ts) b in
+      low_append (leaves (bind (slot_under s) t)) (side_slots (map (bind (slot_under s)) ts)) (side_below t parts.0) (all_sides_below ts parts.1)
+
+  diff_below : (d : Diff) → Low (side_slots (sides d)) → Low (side_slots (sides (diff_under s d)))
+  diff_below d b = subst (λ ts. Low (side_slots ts)) (map-append (bind (slot_under s)) d.left d.right) (all_sides_below (sides d) b)
+
+  diffs_below : (ds : List Diff) → AllByRecursion (λ x. x < n) (flat_map diff_variables ds) → AllByRecursion (λ x. x < n) (flat_map diff_variables (map (diff_under s) ds))
+  diffs_below [] b = tt
+  diffs_below (d ∷ ds) b =
+      let first = diff_below d (all_first (λ x. x < n) (diff_variables d) (flat_map diff_variables ds) b) in
+      let others = diffs_below ds (all_second (λ x. x < n) (diff_variables d) (flat_map diff_variables ds) b) in
+      all_append (λ x. x < n) (diff_variables (diff_under s d)) (flat_map diff_variables (map (diff_under s) ds)) first others
+
+  pub visit_below : (v : Visit) → Below n v → Below n (visit_under s v)
+  visit_below v b = record {
     scope = scope_below v.scope b.scope;
     hypotheses = facts_below v.hypotheses b.hypotheses;
     messages = terms_below v.messages b.messages;
     sessions = terms_below v.sessions b.sessions;
-    diffs = subst (λ (ds : List Diff). AreBelow n (map Leaf (flat_map diff_variables (map (diff_under s) ds)))) unconstrained tt;
+    diffs = leaves_are n (flat_map diff_variables (map (diff_under s) v.diffs)) (diffs_below v.diffs (leaves_were n (flat_map diff_variables v.diffs) b.diffs));
   }

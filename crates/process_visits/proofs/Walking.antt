@@ -45,7 +45,7 @@ drop_behind [] ys n = ap (λ k. drop k ys) (omega arith)
 drop_behind (x ∷ xs) ys n = let same : suc (length xs) + n ≡ suc (length xs + n) = omega arith in ap (λ k. drop k (x ∷ (xs ++ ys))) same ∙ drop_behind xs ys n
 
 -- the items from a place on of lists of one length, one behind the other
-placed : {A B : Type 0} (f : A → List B) (n : ℕ) → ((x : A) → length (f x) ≡ n) → (xs : List A) (q r : ℕ) (d : A) → q < length xs → r ≤ n → (more : List B) × (drop (q * n + r) (flat_map f xs) ≡ drop r (f (get_or xs q d)) ++ more)
+pub placed : {A B : Type 0} (f : A → List B) (n : ℕ) → ((x : A) → length (f x) ≡ n) → (xs : List A) (q r : ℕ) (d : A) → q < length xs → r ≤ n → (more : List B) × (drop (q * n + r) (flat_map f xs) ≡ drop r (f (get_or xs q d)) ++ more)
 placed f n same [] q r d within low = absurd (omega (arith, within))
 placed f n same (x ∷ xs) zero r d within low =
     let none : 0 * n + r ≡ r = omega arith in (flat_map f xs, ap (λ k. drop k (f x ++ flat_map f xs)) none ∙ drop-append-le r (f x) (flat_map f xs) (omega (arith, low, same x)))
@@ -110,7 +110,7 @@ module _ (P : Protocol) (w : source.Visit) (v : Visit) where
   within_row all walk head count later rs was = omega (arith, was.fit.one.0, ids_counted P w v all was.parts walk.row was.row)
 
   -- the instructions that are left are fit
-  fit_on : (next more height : ℕ) (instruction : Instruction) (later : List Instruction) → AreFitInstructions P next height (instruction ∷ later) → BecomesOne more later → (room : ℕ) → room + applied_by later * most_written_symbols ≤ rule_base → AreFitInstructions P room more later
+  pub fit_on : (next more height : ℕ) (instruction : Instruction) (later : List Instruction) → AreFitInstructions P next height (instruction ∷ later) → BecomesOne more later → (room : ℕ) → room + applied_by later * most_written_symbols ≤ rule_base → AreFitInstructions P room more later
   fit_on next more height instruction later fit one room low = record { each = fit.each.1; one = one; room = low }
 
   pub along_pushed : (old new : List Term) (walk : Walk) (next : Row) (t : calculus.Term) (later : List Instruction) (rs : List Ruled) (was : IsAlong P w v (Push t ∷ later) rs old walk) → IsRowOf P w v (was.parts ++ Leaf t ∷ []) new next

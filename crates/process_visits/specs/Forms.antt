@@ -8,9 +8,10 @@ use Rattle.spec_terms.specs.Term.{Term}
 use Rattle.spec_clauses.specs.Fact.{Tab, Ev, Mev, Clause}
 use Rattle.spec_clauses.specs.Limits.{is_large_raw}
 use Rattle.spec_clauses.specs.Norm.{norms}
+use Rattle.spec_clauses.specs.Renaming.{DifferInBound}
 use Rattle.spec_translation.specs.Conversion.{Scope, term_in, Fresh}
 use Rattle.spec_translation.specs.Visit.{Visit, is_large_term, is_large_visit, sent, raw_clause, IsFresh, after_input, event_terms, after_event, written_terms}
-use Rattle.clause_form.specs.Seen.{NameClauses, IdClause}
+use Rattle.clause_form.specs.Seen.{NameClauses, IdClause, clause_at, IsClauseIn}
 use Rattle.clause_form.specs.Fit.{AreLowWithinLimit}
 use Rattle.process_visits.specs.declared.listing.Listing.{Listing}
 use Rattle.process_visits.specs.declared.visit.Visit as source
@@ -33,6 +34,11 @@ pub record Lists (all : List Term) (before after : Listing) (more : List (Clause
 pub record Adds (all : List Term) (before after : Listing) (more : List (Clause Term)) : Type 0 where
   pub lists : Lists all before after more
   pub left : after.left ≡ before.left
+
+-- the ids of the clause name the trees of that one, but for the numbers of bound variables
+pub record ShowsClause (all : List Term) (c : IdClause) (tree : Clause Term) : Type 0 where
+  pub known : IsClauseIn all c
+  pub differ : DifferInBound (clause_at all c) tree
 
 -- the raw clause of an output, and whether its visit is too large
 abbrev pub output_raw : Protocol → Visit → calculus.Term → calculus.Term → Clause Term

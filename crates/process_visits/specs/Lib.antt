@@ -8,6 +8,8 @@ pub mod Numbers
 pub mod Spans
 pub mod Visits
 pub mod Forms
+pub mod Lifting
+pub mod Sides
 pub mod Channels
 pub mod Processes
 pub mod Patterns

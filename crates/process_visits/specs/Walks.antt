@@ -1,5 +1,6 @@
 -- A `let` whose choices are looked at, and how far the walk to one of them has come.
-use Rattle.std.specs.Prelude.{◌≡◌, ℕ, ◌+◌, ◌<◌, ◌≤◌, Bool, List, [], ◌∷◌, ◌++◌, Option, length, map, drop, take}
+use Rattle.std.specs.Prelude.{◌≡◌, ℕ, ◌+◌, ◌<◌, ◌≤◌, List, [], ◌∷◌, ◌++◌, Option, count_by, length, map, drop, take}
+use Rattle.std.specs.Option.{is_some}
 use Rattle.spec_calculus.specs.Syntax.{Ruled, Protocol}
 use Rattle.spec_terms.specs.Term.{Term}
 use Rattle.spec_translation.specs.Visit.{Visit}
@@ -11,9 +12,12 @@ use Rattle.pi_tree.specs.Patterns.{pattern_of}
 use Rattle.process_visits.specs.declared.choice.Choosing.{Choosing}
 use Rattle.process_visits.specs.declared.visit.Visit as source
 use Rattle.process_visits.specs.declared.row.Walk.{Walk}
+use Rattle.process_visits.specs.declared.ways.Looked.{Looked}
+use Rattle.process_visits.specs.declared.ways.Passed.{Passed}
 use Rattle.process_visits.specs.Places.{protocol_at}
 use Rattle.process_visits.specs.Short.{AreFitInstructions}
-use Rattle.process_visits.specs.Visits.{visit_at, IsVisitIn}
+use Rattle.process_visits.specs.Visits.{visit_at, IsVisitIn, NamesVisit}
+use Rattle.process_visits.specs.Ways.{PassesBy}
 use Rattle.process_visits.specs.RuledRows.{IsRowOf}
 
 -- the instructions of the expression
@@ -49,16 +53,24 @@ StandsBefore P w instruction all walk = (v : Visit) × (later : List Instruction
 abbrev pub StandsAtEnd : Protocol → source.Visit → List Term → Walk → Type 0
 StandsAtEnd P w all walk = (v : Visit) × (rs : List Ruled) × IsAlong P w v [] rs all walk
 
--- so many choices are passed from the one of the number on, and whether one of them goes on with a visit that is too large
-pub record LooksAt (all : List Term) (choosing : Choosing) (number count : ℕ) (large : Bool) : Type 0 where
+-- The first of these choices are passed, as x goes on, which is the visit of the `let` but for its constraints: where x is that visit, the one
+-- that goes on is named.
+abbrev pub PassesFrom : Choosing → source.Visit → Visit → List Ruled → List Term → Passed → Type 0
+PassesFrom choosing x v rs all passed = PassesBy (λ made w. x ≡ choosing.visit.now → NamesVisit all made w) (protocol_at choosing.place.now) v (pattern_of choosing.pattern.now) rs passed
+
+-- so many choices are passed from the one of the number on, and what is found of them
+pub record LooksAt (all : List Term) (choosing : Choosing) (number count : ℕ) (looked : Looked) : Type 0 where
   pub some : 0 < count
   pub within : number + count ≤ choosing.count
   pub outs : List (Option Visit)
   pub go : EachGoesOn (protocol_at choosing.place.now) (visit_at all choosing.visit.now) (pattern_of choosing.pattern.now) (take count (drop number (choices_of choosing))) outs
-  pub is : some_large outs ≡ large
+  pub large : some_large outs ≡ looked.large
+  pub going : count_by is_some outs ≡ looked.going
+  pub few : looked.going ≤ count
 
--- how all choices go on, and whether one goes on with a visit that is too large
-pub record HasChoices (all : List Term) (choosing : Choosing) (large : Bool) : Type 0 where
+-- how all choices go on, whether one goes on with a visit that is too large, and how many go on
+pub record HasChoices (all : List Term) (choosing : Choosing) (looked : Looked) : Type 0 where
   pub outs : List (Option Visit)
   pub go : EachGoesOn (protocol_at choosing.place.now) (visit_at all choosing.visit.now) (pattern_of choosing.pattern.now) (choices_of choosing) outs
-  pub is : some_large outs ≡ large
+  pub large : some_large outs ≡ looked.large
+  pub going : count_by is_some outs ≡ looked.going

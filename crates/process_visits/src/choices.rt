@@ -4,6 +4,8 @@
 //! expression, which takes from the number the rule of each destructor. Where the arguments of a destructor can't
 //! become the left sides of its rule, nor can they in any other choice that begins with the same rules: all of these
 //! are passed at once. Nothing is kept from one choice to the next.
+//!
+//! Whether the visits that go on are too large doesn't depend on constraints, so choices are looked at without them.
 
 ghost use Rattle.std.specs.Prelude.{◌≡◌, ◌-◌, ◌*◌, ◌<◌, ◌≤◌, true, List, [], ◌∷◌, map, drop, IfOk, MatchBool};
 ghost use Rattle.spec_calculus.specs.Bounds.{most_choices};
@@ -16,15 +18,16 @@ ghost use Rattle.spec_choice_walks.specs.Instructions as walks;
 ghost use Rattle.spec_choice_walks.specs.Instructions.{Apply, choices_by};
 ghost use Rattle.term_values.specs.Instructions.{instruction_of};
 ghost use Rattle.process_visits.specs.Places.{protocol_at};
-ghost use Rattle.process_visits.specs.Visits.{visit_at};
+ghost use Rattle.process_visits.specs.Visits.{visit_at, IsButForDiffs};
 ghost use Rattle.process_visits.specs.Ways.{is_nowhere_way, Passes, AreCut};
-ghost use Rattle.process_visits.specs.Walks.{instructions_of, choices_of, IsChoosingIn, IsAlong, StandsBefore, StandsAtEnd, LooksAt, HasChoices};
+ghost use Rattle.process_visits.specs.Walks.{instructions_of, choices_of, IsChoosingIn, IsAlong, StandsBefore, StandsAtEnd, PassesFrom, LooksAt, HasChoices};
 
 use crate::choice::Choosing;
 use crate::inputs::with_pattern;
 use crate::row::{Row, Walk, apply_rule, build, push_term};
 use crate::unified::visit_under;
-use crate::ways::{Passed, Way, way_to};
+use crate::visit::Visit;
+use crate::ways::{Looked, Passed, Way, way_to};
 use clause_terms::constructor_symbol;
 use pi_tree::Protocol;
 use std::alloc::AllocError;
@@ -123,26 +126,28 @@ fn step<B: Bank>(
     }
 }
 
-/// How the choice goes on at whose end the walk stands. On `Err` the bank may have grown.
+/// How the choice goes on at whose end the walk stands, with the constraints of a visit that is like that of the `let`. On
+/// `Err` the bank may have grown.
 fn finish<B: Bank>(
     choosing: &Choosing<'_>,
     bank: &mut B,
     walk: &mut Walk,
+    visit: &Visit,
 ) -> Result<Way, AllocError>
     requires stands { StandsAtEnd (protocol_at choosing.now.place.now) choosing.now.visit.now
         (B.trees bank.old) walk.old }
+    requires like { IsButForDiffs (B.trees bank.old) choosing.now.visit.now visit.now }
     ensures grows { Grows (B.trees bank.old) (B.trees bank.new) }
     ensures passes { IfOk result (λ way. (v : translation.Visit) → (rs : List Ruled) →
         IsAlong (protocol_at choosing.now.place.now) choosing.now.visit.now v [] rs
-        (B.trees bank.old) walk.old →
-        Passes (protocol_at choosing.now.place.now) v (pattern_of choosing.now.pattern.now) rs
+        (B.trees bank.old) walk.old → PassesFrom choosing.now visit.now v rs
         (B.trees bank.new) (record { count = 1; way = way })) }
 {
     let place = choosing.place;
     let row = &mut walk.row;
     let value = row.ids[0];
     let from = row.next + 1;
-    let (made, target) = with_pattern(place, bank, choosing.visit, from, choosing.pattern)?;
+    let (made, target) = with_pattern(place, bank, visit, from, choosing.pattern)?;
     if !unify(bank, value, target, &mut row.binds)? {
         return Ok(Way::Nowhere);
     }
@@ -155,16 +160,17 @@ fn follow<B: Bank>(
     choosing: &Choosing<'_>,
     bank: &mut B,
     walk: &mut Walk,
+    visit: &Visit,
 ) -> Result<Passed, AllocError>
     requires stands { (v : translation.Visit) × (rs : List Ruled)
         × IsAlong (protocol_at choosing.now.place.now) choosing.now.visit.now v
         (instructions_of choosing.now) rs (B.trees bank.old) walk.old }
+    requires like { IsButForDiffs (B.trees bank.old) choosing.now.visit.now visit.now }
     ensures grows { Grows (B.trees bank.old) (B.trees bank.new) }
     ensures passes { IfOk result (λ passed. (v : translation.Visit) → (rs : List Ruled) →
         IsAlong (protocol_at choosing.now.place.now) choosing.now.visit.now v
         (instructions_of choosing.now) rs (B.trees bank.old) walk.old →
-        Passes (protocol_at choosing.now.place.now) v (pattern_of choosing.now.pattern.now) rs
-        (B.trees bank.new) passed) }
+        PassesFrom choosing.now visit.now v rs (B.trees bank.new) passed) }
 {
     'each: for instruction in choosing.instructions {
         if !step(choosing, bank, walk, instruction)? {
@@ -174,23 +180,25 @@ fn follow<B: Bank>(
             });
         }
     }
-    let way = finish(choosing, bank, walk)?;
+    let way = finish(choosing, bank, walk, visit)?;
     Ok(Passed { count: 1, way })
 }
 
-/// Choices from the one of that number on, and how they go on. On `Err` the bank may have grown.
+/// Choices from the one of that number on, and how they go on, with the constraints of a visit that is like that of the
+/// `let`. On `Err` the bank may have grown.
 fn walk_to<B: Bank>(
     choosing: &Choosing<'_>,
     bank: &mut B,
     number: usize,
+    visit: &Visit,
 ) -> Result<Passed, AllocError>
     requires known { IsChoosingIn (B.trees bank.old) choosing.now }
     requires within { number < choosing.now.count }
+    requires like { IsButForDiffs (B.trees bank.old) choosing.now.visit.now visit.now }
     ensures grows { Grows (B.trees bank.old) (B.trees bank.new) }
-    ensures passes { IfOk result (λ passed. Passes (protocol_at choosing.now.place.now)
+    ensures passes { IfOk result (λ passed. PassesFrom choosing.now visit.now
         (visit_at (B.trees bank.old) choosing.now.visit.now)
-        (pattern_of choosing.now.pattern.now) (drop number (choices_of choosing.now))
-        (B.trees bank.new) passed) }
+        (drop number (choices_of choosing.now)) (B.trees bank.new) passed) }
 {
     let row = Row::new(choosing.place.alloc, choosing.visit.next)?;
     let mut walk = Walk {
@@ -198,7 +206,7 @@ fn walk_to<B: Bank>(
         left: choosing.count,
         number,
     };
-    let passed = follow(choosing, bank, &mut walk);
+    let passed = follow(choosing, bank, &mut walk, visit);
     drop(walk);
     passed
 }
@@ -221,7 +229,7 @@ pub fn choices_from<B: Bank>(
         (B.trees bank.new) passed) }
 {
     let mark = bank.mark();
-    let passed = walk_to(choosing, bank, number)?;
+    let passed = walk_to(choosing, bank, number, choosing.visit)?;
     if !passed.is_nowhere() {
         return Ok(passed);
     }
@@ -229,39 +237,64 @@ pub fn choices_from<B: Bank>(
     Ok(passed)
 }
 
-/// How many choices from the one of that number on are passed together, and whether one of them goes on with a visit
-/// that is too large. The bank is as before; on `Err` it may have grown.
+/// How many choices from the one of that number on are passed together, and what is found of them, by the visit without
+/// constraints. The bank is as before; on `Err` it may have grown.
 fn look_from<B: Bank>(
     choosing: &Choosing<'_>,
     bank: &mut B,
     number: usize,
-) -> Result<(usize, bool), AllocError>
+    bare: &Visit,
+) -> Result<(usize, Looked), AllocError>
     requires known { IsChoosingIn (B.trees bank.old) choosing.now }
     requires within { number < choosing.now.count }
+    requires like { IsButForDiffs (B.trees bank.old) choosing.now.visit.now bare.now }
     ensures grows { Grows (B.trees bank.old) (B.trees bank.new) }
     ensures back { IfOk result (λ found. B.trees bank.new ≡ B.trees bank.old) }
     ensures looks { IfOk result (λ found. LooksAt (B.trees bank.old) choosing.now number found.0
         found.1) }
 {
     let mark = bank.mark();
-    let passed = walk_to(choosing, bank, number)?;
+    let passed = walk_to(choosing, bank, number, bare)?;
     bank.back(mark);
-    Ok((passed.count, passed.is_large()))
+    Ok((passed.count, passed.looked()))
 }
 
-/// Whether a choice goes on with a visit that is too large. The bank is as before; on `Err` it may have grown.
-pub fn is_large_choice<B: Bank>(choosing: &Choosing<'_>, bank: &mut B) -> Result<bool, AllocError>
-    requires { IsChoosingIn (B.trees bank.old) choosing.now }
+/// What is found of all choices, by the visit without constraints. The bank is as before; on `Err` it may have grown.
+fn look_along<B: Bank>(
+    choosing: &Choosing<'_>,
+    bank: &mut B,
+    bare: &Visit,
+) -> Result<Looked, AllocError>
+    requires known { IsChoosingIn (B.trees bank.old) choosing.now }
+    requires like { IsButForDiffs (B.trees bank.old) choosing.now.visit.now bare.now }
     ensures grows { Grows (B.trees bank.old) (B.trees bank.new) }
-    ensures back { IfOk result (λ found. B.trees bank.new ≡ B.trees bank.old) }
-    ensures large { IfOk result (HasChoices (B.trees bank.old) choosing.now) }
+    ensures back { IfOk result (λ looked. B.trees bank.new ≡ B.trees bank.old) }
+    ensures looked { IfOk result (HasChoices (B.trees bank.old) choosing.now) }
 {
     let mut number = 0usize;
     let mut large = false;
+    let mut going = 0usize;
     'each: while number < choosing.count {
-        let (count, is_large) = look_from(choosing, bank, number)?;
-        large = large || is_large;
+        let (count, looked) = look_from(choosing, bank, number, bare)?;
+        large = large || looked.large;
+        going += looked.going;
         number += count;
     }
-    Ok(large)
+    Ok(Looked { large, going })
+}
+
+/// What is found of all choices, which takes no time for the visit's constraints. The bank is as before; on `Err` it may
+/// have grown.
+pub fn look_at_choices<B: Bank>(choosing: &Choosing<'_>, bank: &mut B) -> Result<Looked, AllocError>
+    requires { IsChoosingIn (B.trees bank.old) choosing.now }
+    ensures grows { Grows (B.trees bank.old) (B.trees bank.new) }
+    ensures back { IfOk result (λ looked. B.trees bank.new ≡ B.trees bank.old) }
+    ensures looked { IfOk result (HasChoices (B.trees bank.old) choosing.now) }
+{
+    let visit = choosing.visit;
+    if visit.diffs.has_no_block() {
+        return look_along(choosing, bank, visit);
+    }
+    let bare = visit.without_diffs(choosing.place.alloc)?;
+    look_along(choosing, bank, &bare)
 }

@@ -1,6 +1,6 @@
 //! Events: the clause that it may have run, and the hypothesis that it must have.
 
-ghost use Rattle.std.specs.Prelude.{◌≡◌, [], map, IfOk};
+ghost use Rattle.std.specs.Prelude.{◌≡◌, map, IfOk};
 ghost use Rattle.std.specs.List.{AllByRecursion};
 ghost use Rattle.pi_tree.specs.Events.{event_of};
 ghost use Rattle.spec_clauses.specs.Fact as horn;
@@ -15,7 +15,7 @@ use crate::large::{is_large_visit, some_large_term};
 use crate::listing::Listing;
 use crate::place::Place;
 use crate::visit::Visit;
-use clause_form::{Clause, Diffs, Fact, Ids};
+use clause_form::{Clause, Fact, Ids};
 use clause_terms::terms_in;
 use pi_tree::Atom;
 use std::alloc::{AllocError, Global};
@@ -31,15 +31,16 @@ fn event_clause(
     ensures { IfOk result (λ raw. raw ≡
         record {
           hypotheses = visit.now.hypotheses;
-          diffs = [];
+          diffs = visit.now.diffs;
           conclusion = horn.Ev event arguments.now;
         }) }
 {
     let hyps = visit.hypotheses.copy(alloc)?;
+    let diffs = visit.diffs.listed(alloc)?;
     let arguments = arguments.copy(alloc)?;
     Ok(Clause {
         hyps,
-        diffs: Diffs::new(alloc),
+        diffs,
         concl: Fact::Ev(event, arguments),
     })
 }

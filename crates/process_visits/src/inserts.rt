@@ -4,9 +4,8 @@ ghost use Rattle.std.specs.Prelude.{◌≡◌, true, false, IfOk, MatchBool};
 ghost use Rattle.std.specs.List.{AllByRecursion};
 ghost use Rattle.spec_clauses.specs.Norm.{norms};
 ghost use Rattle.term_tree.specs.Bank.{Grows};
-ghost use Rattle.clause_form.specs.Seen.{NamesClause};
 ghost use Rattle.clause_terms.specs.Conditions.{HasShortTuples};
-ghost use Rattle.process_visits.specs.Forms.{Adds, insert_raw, is_large_insert};
+ghost use Rattle.process_visits.specs.Forms.{Adds, insert_raw, is_large_insert, ShowsClause};
 ghost use Rattle.process_visits.specs.Places.{protocol_at};
 ghost use Rattle.process_visits.specs.Visits.{visit_at, IsVisitIn};
 
@@ -15,7 +14,7 @@ use crate::large::some_large_term;
 use crate::listing::Listing;
 use crate::place::Place;
 use crate::visit::Visit;
-use clause_form::{Clause, Diffs, Fact};
+use clause_form::{Clause, Fact};
 use clause_terms::terms_in;
 use std::alloc::AllocError;
 use term_tree::Bank;
@@ -30,11 +29,12 @@ fn insert_clause<B: Bank>(
     requires visit { IsVisitIn (B.trees bank.old) visit.now }
     requires short { AllByRecursion HasShortTuples insert.now.arguments.now }
     ensures grows { Grows (B.trees bank.old) (B.trees bank.new) }
-    ensures names { IfOk result (λ raw. NamesClause (B.trees bank.new) raw
+    ensures names { IfOk result (λ raw. ShowsClause (B.trees bank.new) raw
         (insert_raw (protocol_at place.now) (visit_at (B.trees bank.old) visit.now)
         insert.now.table insert.now.arguments.now)) }
 {
     let hyps = visit.hypotheses.copy(place.alloc)?;
+    let diffs = visit.diffs.listed(place.alloc)?;
     let arguments = terms_in(
         place.alloc,
         bank,
@@ -44,7 +44,7 @@ fn insert_clause<B: Bank>(
     )?;
     Ok(Clause {
         hyps,
-        diffs: Diffs::new(place.alloc),
+        diffs,
         concl: Fact::Tab(insert.table, arguments),
     })
 }

@@ -7,11 +7,11 @@ ghost use Rattle.spec_translation.specs.Visit.{sent};
 ghost use Rattle.pi_tree.specs.Terms.{term_of};
 ghost use Rattle.term_tree.specs.Bank.{Grows};
 ghost use Rattle.clause_form.specs.Facts.{fact_of};
-ghost use Rattle.clause_form.specs.Seen.{NamesFact, NamesClause};
+ghost use Rattle.clause_form.specs.Seen.{NamesFact};
 ghost use Rattle.clause_terms.specs.Conditions.{HasShortTuples};
 ghost use Rattle.clause_terms.specs.Scopes.{scope_at, IsScopeIn};
 ghost use Rattle.process_visits.specs.Places.{protocol_at};
-ghost use Rattle.process_visits.specs.Forms.{Adds, output_raw, is_large_output};
+ghost use Rattle.process_visits.specs.Forms.{Adds, output_raw, is_large_output, ShowsClause};
 ghost use Rattle.process_visits.specs.Visits.{visit_at, IsVisitIn};
 
 use crate::channels::sent;
@@ -20,7 +20,7 @@ use crate::large::is_large_term;
 use crate::listing::Listing;
 use crate::place::Place;
 use crate::visit::Visit;
-use clause_form::{Clause, Diffs, Fact};
+use clause_form::{Clause, Fact};
 use clause_terms::term_in;
 use pi_tree::Term;
 use std::alloc::AllocError;
@@ -61,17 +61,14 @@ fn output_clause<B: Bank>(
     requires channel { HasShortTuples (term_of channel.now) }
     requires message { HasShortTuples (term_of message.now) }
     ensures grows { Grows (B.trees bank.old) (B.trees bank.new) }
-    ensures names { IfOk result (λ raw. NamesClause (B.trees bank.new) raw
+    ensures names { IfOk result (λ raw. ShowsClause (B.trees bank.new) raw
         (output_raw (protocol_at place.now) (visit_at (B.trees bank.old) visit.now)
         (term_of channel.now) (term_of message.now))) }
 {
     let hyps = visit.hypotheses.copy(place.alloc)?;
+    let diffs = visit.diffs.listed(place.alloc)?;
     let concl = sent_in(place, bank, visit, channel, message)?;
-    Ok(Clause {
-        hyps,
-        diffs: Diffs::new(place.alloc),
-        concl,
-    })
+    Ok(Clause { hyps, diffs, concl })
 }
 
 /// Adds what an output adds, unless it is too large, and tells whether it did. On `Err` the bank may have grown.

@@ -1,6 +1,6 @@
 //! New variables for those that a pattern binds: where they begin and end.
 
-ghost use Rattle.std.specs.Prelude.{◌+◌, ◌-◌, ◌<◌, ◌≤◌, IfOk, IfSome};
+ghost use Rattle.std.specs.Prelude.{◌≡◌, ◌+◌, ◌-◌, ◌^◌, ◌<◌, ◌≤◌, IfOk, IfSome};
 ghost use Rattle.std.specs.List.{AllByRecursion};
 ghost use Rattle.process_visits.specs.Spans.{IsSpan};
 
@@ -65,6 +65,20 @@ pub fn span_of(base: u32, numbers: &[u32]) -> Result<Span, AllocError>
     };
     match end_of(at, numbers) {
         Some(next) if next <= MOST_NEXT => Ok(Span { at, next }),
+        _ => Err(AllocError),
+    }
+}
+
+/// New variables for these numbers, each as far behind the base as its number says. Where they would lead past the limit,
+/// which none of a protocol that is read do, it is as if there were no memory.
+pub fn numbered_from(base: u32, numbers: &[u32]) -> Result<Fresh, AllocError>
+    ensures at { IfOk result (λ at. at ≡ record { base = base; first = 0 }) }
+    ensures room { IfOk result (λ at. AllByRecursion
+        (λ i. at.base + (i - at.first) < 2 ^ 32) numbers.now) }
+{
+    let at = Fresh { base, first: 0 };
+    match end_of(at, numbers) {
+        Some(end) if end <= MOST_NEXT => Ok(at),
         _ => Err(AllocError),
     }
 }

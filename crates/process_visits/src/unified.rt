@@ -16,6 +16,7 @@ ghost use Rattle.process_visits.specs.Visits.{visit_at, IsVisitIn, NamesVisit};
 ghost use Rattle.process_visits.specs.Solving.{HasBelow, NamesKnown};
 
 use crate::built::Built;
+use crate::constrained::lifted;
 use crate::substituted::{facts_under, term_under};
 use crate::visit::Visit;
 use clause_form::{Facts, Ids};
@@ -177,9 +178,11 @@ pub fn visit_under<B: Bank>(
         None => Ok(None),
         Some((scope, hypotheses)) => {
             let (messages, sessions) = past_under(alloc, bank, binds, &built, visit)?;
+            let diffs = lifted(alloc, bank, binds, visit.next, &visit.diffs)?;
             Ok(Some(Visit {
                 scope,
                 hypotheses,
+                diffs,
                 messages,
                 sessions,
                 next: visit.next,

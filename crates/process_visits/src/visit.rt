@@ -5,17 +5,20 @@ ghost use Rattle.spec_clauses.specs.Fact.{Tab, Mev};
 ghost use Rattle.clause_form.specs.Facts.{fact_of};
 ghost use Rattle.clause_terms.specs.Slots.{held_of};
 
+use crate::excluding::Excluded;
+use clause_diffs::Diffs;
 use clause_form::{Fact, Facts, Ids};
 use clause_terms::{Scope, Standing};
 use std::alloc::{AllocError, Global};
 use term_tree::Id;
 
-/// What is known where a point is visited: what the leaves stand for, the hypotheses so far, the messages received
-/// above the point with the terms of the entries taken there, the numbers of the copies that were taken above it, and the
-/// phase. All variables are below `next`. It has no constraints.
+/// What is known where a point is visited: what the leaves stand for, the hypotheses and constraints so far, the messages
+/// received above the point with the terms of the entries taken there, the numbers of the copies that were taken above it, and
+/// the phase. All variables but those that a constraint binds are below `next`.
 pub struct Visit {
     pub scope: Scope,
     pub hypotheses: Facts,
+    pub diffs: Excluded,
     pub messages: Ids,
     pub sessions: Ids,
     pub next: u32,
@@ -28,6 +31,7 @@ impl Drop for Visit {
         let Visit {
             scope: _,
             hypotheses: _,
+            diffs: _,
             messages: _,
             sessions: _,
             next: _,
@@ -49,11 +53,20 @@ impl Visit {
     /// The first visit, of the main process, in phase 0.
     pub fn first(alloc: Global) -> Visit
         ensures { result ≡
-            record { scope = []; hypotheses = []; messages = []; sessions = []; next = 0; phase = 0 } }
+            record {
+              scope = [];
+              hypotheses = [];
+              diffs = [];
+              messages = [];
+              sessions = [];
+              next = 0;
+              phase = 0;
+            } }
     {
         Visit {
             scope: Scope::new(alloc),
             hypotheses: Facts::new(alloc),
+            diffs: Excluded::none(alloc),
             messages: Ids {
                 items: Vec::new(alloc),
             },
@@ -72,8 +85,43 @@ impl Visit {
         Ok(Visit {
             scope: self.scope.copy(alloc)?,
             hypotheses: self.hypotheses.copy(alloc)?,
+            diffs: self.diffs.copy(alloc)?,
             messages: self.messages.copy(alloc)?,
             sessions: self.sessions.copy(alloc)?,
+            next: self.next,
+            phase: self.phase,
+        })
+    }
+
+    /// A copy without the constraints.
+    pub fn without_diffs(&self, alloc: Global) -> Result<Visit, AllocError>
+        ensures { IfOk result (λ made. made ≡ record self.now { diffs = [] }) }
+    {
+        Ok(Visit {
+            scope: self.scope.copy(alloc)?,
+            hypotheses: self.hypotheses.copy(alloc)?,
+            diffs: Excluded::none(alloc),
+            messages: self.messages.copy(alloc)?,
+            sessions: self.sessions.copy(alloc)?,
+            next: self.next,
+            phase: self.phase,
+        })
+    }
+
+    /// A visit for a process that does nothing: a copy without what such a process has no use of.
+    pub fn for_nothing(&self, alloc: Global) -> Result<Visit, AllocError>
+        ensures { IfOk result (λ made. made ≡
+            record self.now { scope = []; hypotheses = []; diffs = []; messages = [] }) }
+    {
+        let sessions = self.sessions.copy(alloc)?;
+        Ok(Visit {
+            scope: Scope::new(alloc),
+            hypotheses: Facts::new(alloc),
+            diffs: Excluded::none(alloc),
+            messages: Ids {
+                items: Vec::new(alloc),
+            },
+            sessions,
             next: self.next,
             phase: self.phase,
         })
@@ -127,6 +175,7 @@ impl Visit {
         Ok(Visit {
             scope: joined(alloc, &self.scope, bound)?,
             hypotheses: self.hypotheses.copy(alloc)?,
+            diffs: self.diffs.copy(alloc)?,
             messages: self.messages.copy(alloc)?,
             sessions: self.sessions.copy(alloc)?,
             next,
@@ -159,5 +208,21 @@ impl Visit {
         self.hypotheses.push(Fact::Tab(table, terms))?;
         self.messages.items.append(&mut more.items)?;
         Ok(self)
+    }
+
+    /// A copy with constraints besides.
+    pub fn with_diffs(&self, alloc: Global, more: Diffs) -> Result<Visit, AllocError>
+        ensures { IfOk result (λ made. made ≡
+            record self.now { diffs = self.now.diffs ++ more }) }
+    {
+        Ok(Visit {
+            scope: self.scope.copy(alloc)?,
+            hypotheses: self.hypotheses.copy(alloc)?,
+            diffs: self.diffs.with(alloc, more)?,
+            messages: self.messages.copy(alloc)?,
+            sessions: self.sessions.copy(alloc)?,
+            next: self.next,
+            phase: self.phase,
+        })
     }
 }

@@ -3,7 +3,7 @@
 ghost use Rattle.std.specs.Prelude.{◌≡◌, true, IfSome, MatchOption, MatchBool};
 ghost use Rattle.spec_translation.specs.Visit as translation;
 ghost use Rattle.process_visits.specs.Visits.{visit_at, IsVisitIn};
-ghost use Rattle.process_visits.specs.Ways.{is_nowhere_way, is_large_way};
+ghost use Rattle.process_visits.specs.Ways.{is_nowhere_way, is_large_way, going_way};
 ghost use Rattle.process_visits.specs.declared.ways.Way.TheVariants as ways;
 
 use crate::large::is_large_visit;
@@ -27,6 +27,13 @@ pub struct Passed {
     pub way: Way,
 }
 
+/// What is found of choices: whether one goes on with a visit that is too large, and how many go on.
+#[derive(Clone, Copy)]
+pub struct Looked {
+    pub large: bool,
+    pub going: usize,
+}
+
 impl Passed {
     /// Whether they go on nowhere.
     pub fn is_nowhere(&self) -> bool
@@ -36,11 +43,25 @@ impl Passed {
         matches!(self.way, Way::Nowhere)
     }
 
-    /// Whether the visit that goes on is too large.
-    pub fn is_large(&self) -> bool
-        ensures { result ≡ is_large_way self.now.way }
+    /// What is found of them.
+    pub fn looked(&self) -> Looked
+        ensures large { result.large ≡ is_large_way self.now.way }
+        ensures going { result.going ≡ going_way self.now.way }
     {
-        matches!(self.way, Way::Large)
+        match self.way {
+            Way::Nowhere => Looked {
+                large: false,
+                going: 0,
+            },
+            Way::Large => Looked {
+                large: true,
+                going: 1,
+            },
+            Way::Visit(_) => Looked {
+                large: false,
+                going: 1,
+            },
+        }
     }
 }
 

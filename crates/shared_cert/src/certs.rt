@@ -28,7 +28,10 @@ impl Model for SharedCert {
 }
 
 impl SharedCert {
-    /// The same certificate over trees: each term is made wherever it stands.
+    /// The same certificate over trees: each term is made wherever it stands. The variables that a constraint binds are numbered from
+    /// the least number above all variables of its clause itself.
+    ///
+    /// `Err` comes for want of memory, and where that number is past 32 bits.
     pub fn spelled_out(self, alloc: Global) -> Result<Cert, AllocError>
         ensures { IfOk result (λ cert. cert ≡ self) }
     {

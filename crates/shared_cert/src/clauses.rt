@@ -4,7 +4,8 @@ ghost use Rattle.std.specs.Prelude.{◌≡◌, [], ◌∷◌, ◌++◌, IfOk, On
 ghost use Rattle.clause_form.specs.Fit.{clauses_at};
 ghost use Rattle.clause_form.specs.Seen.{AreClausesIn};
 
-use cert_form::{PlainClauses, read_clauses};
+use crate::spelling::spelled_clauses;
+use cert_form::PlainClauses;
 use clause_form::{Clauses, PlainClause, copy_into};
 use std::alloc::{AllocError, Global};
 use std::marker::Model;
@@ -74,10 +75,13 @@ impl SharedClauses {
         Ok(())
     }
 
-    /// The same clauses over trees: each term is made wherever it stands.
+    /// The same clauses over trees: each term is made wherever it stands. The variables that a constraint binds are numbered from the
+    /// least number above all variables of its clause itself.
+    ///
+    /// `Err` comes for want of memory, and where that number is past 32 bits.
     pub fn spelled_out(&self, alloc: Global) -> Result<PlainClauses, AllocError>
         ensures { IfOk result (λ plain. plain ≡ self.now) }
     {
-        read_clauses(alloc, &self.bank, &self.clauses.items)
+        spelled_clauses(alloc, &self.bank, &self.clauses.items)
     }
 }

@@ -20,10 +20,10 @@ use Rattle.spec_clauses.specs.Kept.{AreMetBy}
 use Rattle.spec_clauses.specs.Flat.{flat}
 use Rattle.spec_clauses.specs.Variables.{IsBelow}
 use Rattle.spec_clauses.proofs.Lists.{all_append, all_first, all_second}
-use Rattle.spec_translation.specs.Conversion.{Scope, term_in, Fresh}
+use Rattle.spec_translation.specs.Conversion.{term_in, Fresh}
 use Rattle.spec_translation.specs.Visit.{Visit, visit_under, IsFresh}
 use Rattle.spec_translation.specs.Choice.{Choice, choice_under, IsUnified, with_pattern, ruled_choice, GoesOn, ChoiceGoesOn, EachGoesOn}
-use Rattle.spec_translation.specs.Otherwise.{choice_diffs, are_else_branches_precise, else_diffs, otherwise_visit}
+use Rattle.spec_translation.specs.Otherwise.{choice_diffs, otherwise_visit}
 use Rattle.spec_translation.proofs.Otherwise.{otherwise_visit-under}
 use Rattle.spec_translation.proofs.Visits.{visit_under-visit_under, visit_agree, terms_agree, below_agree}
 use Rattle.spec_abstraction.specs.Trace.{Past}
@@ -96,18 +96,11 @@ module _ (P : Protocol) (names : Naming) (all : List (Clause Term)) (has : Attac
         let over = choices_over AnyTerm IsProperRule P proper expression (each-holds AnyTerm (λ t. tt) (leaves expression)) in
         found_follows (λ d. same_label (label_of d.rules) label) (choices P expression) c f.has_visit.0 f.visit f.by f.carried found over gives f.closed f.in_phase f.met f.derived f.has_visit.1 f.has_visit.2
 
-  -- what an else branch adds is met where the constraints of all choices are, with constraints or without
-  else_met : (scope : Scope) (pattern : Pattern) (expression : Expression) → AreMetBy Leaf (choice_diffs P scope pattern expression) → AreMetBy Leaf (else_diffs P scope pattern expression)
-  else_met scope pattern expression met = either are_else_branches_precise where
-    either : (precise : Bool) → AreMetBy Leaf (cond precise (choice_diffs P scope pattern expression) [])
-    either true = met
-    either false = tt
-
   -- the else branch, where its constraints are met
   pub fail_follows : (environment : Environment) (past : Past) (pattern : Pattern) (expression : Expression) (otherwise : Process) → AreMetBy Leaf (choice_diffs P (map (abstracted_binding P names) environment) pattern expression) → Follows P names all has events now (Let pattern expression next otherwise) point environment past → Follows P names all has events now otherwise (point_after (point + 1) next) environment past
   fail_follows environment past pattern expression otherwise met f =
       let scope = map (abstracted_binding P names) environment in
-      let new = else_diffs P scope pattern expression in
+      let new = choice_diffs P scope pattern expression in
       let made = otherwise_visit-under P f.by f.visit pattern expression ∙ (λ i. otherwise_visit P (f.closed i) pattern expression) in
       record {
         visit = otherwise_visit P f.visit pattern expression;
@@ -116,6 +109,6 @@ module _ (P : Protocol) (names : Naming) (all : List (Clause Term)) (has : Attac
         has_visit = f.has_visit.3;
         closed = made;
         in_phase = phase_goes_on otherwise f.carried.phase now f.in_phase;
-        met = all_append (IsMetBy Leaf) f.carried.diffs new f.met (else_met scope pattern expression met);
+        met = all_append (IsMetBy Leaf) f.carried.diffs new f.met met;
         derived = f.derived;
       }

@@ -19,48 +19,48 @@ either (inl a) first second = first a
 either (inr b) first second = second b
 
 -- reading has come through bytes, up to the rest, with this reading
-pub record Through (P : Protocol) (bytes : List ℕ) (at : ℕ) (r : Reading) (rest : List ℕ) (s : Reading) : Type 0 where
+pub record Through (binds : Bool) (P : Protocol) (bytes : List ℕ) (at : ℕ) (r : Reading) (rest : List ℕ) (s : Reading) : Type 0 where
   pub place : ℕ
-  pub is : read_on P bytes at r ≡ read_on P rest place s
+  pub is : read_on binds P bytes at r ≡ read_on binds P rest place s
   pub counted : place + length rest ≡ at + length bytes
 
 -- a fault is told, which stands before the rest
-pub record Stopped (P : Protocol) (bytes : List ℕ) (at : ℕ) (r : Reading) (rest : List ℕ) : Type 0 where
+pub record Stopped (binds : Bool) (P : Protocol) (bytes : List ℕ) (at : ℕ) (r : Reading) (rest : List ℕ) : Type 0 where
   pub place : ℕ
   pub code : Code
-  pub is : read_on P bytes at r ≡ Refused place code
+  pub is : read_on binds P bytes at r ≡ Refused place code
   pub early : place + length rest + 1 ≤ at + length bytes
   pub other : code ≢ Syntax
 
 -- a term ends before the rest
-pub record EndedAt (P : Protocol) (bytes : List ℕ) (at : ℕ) (r : Reading) (rest : List ℕ) (heads : List Open) : Type 0 where
+pub record EndedAt (binds : Bool) (P : Protocol) (bytes : List ℕ) (at : ℕ) (r : Reading) (rest : List ℕ) (heads : List Open) : Type 0 where
   pub term : Term
   pub since : ℕ
-  pub through : Through P bytes at r rest (reading heads (Ended term) since)
+  pub through : Through binds P bytes at r rest (reading heads (Ended term) since)
 
-abbrev pub Comes : Protocol → List ℕ → ℕ → Reading → List ℕ → List Open → Type 0
-Comes P bytes at r rest heads = Stopped P bytes at r rest ⊎ EndedAt P bytes at r rest heads
+abbrev pub Comes : Bool → Protocol → List ℕ → ℕ → Reading → List ℕ → List Open → Type 0
+Comes binds P bytes at r rest heads = Stopped binds P bytes at r rest ⊎ EndedAt binds P bytes at r rest heads
 
-abbrev pub through_both : (P : Protocol) (bytes : List ℕ) (at : ℕ) (r : Reading) (mid : List ℕ) (s : Reading) (rest : List ℕ) (u : Reading) → (one : Through P bytes at r mid s) → Through P mid one.place s rest u → Through P bytes at r rest u
-through_both P bytes at r mid s rest u one two = record { place = two.place; is = one.is ∙ two.is; counted = two.counted ∙ one.counted }
+abbrev pub through_both : (binds : Bool) (P : Protocol) (bytes : List ℕ) (at : ℕ) (r : Reading) (mid : List ℕ) (s : Reading) (rest : List ℕ) (u : Reading) → (one : Through binds P bytes at r mid s) → Through binds P mid one.place s rest u → Through binds P bytes at r rest u
+through_both binds P bytes at r mid s rest u one two = record { place = two.place; is = one.is ∙ two.is; counted = two.counted ∙ one.counted }
 
-pub stopped_behind : (P : Protocol) (bytes : List ℕ) (at : ℕ) (r : Reading) (mid : List ℕ) (s : Reading) (rest : List ℕ) → (one : Through P bytes at r mid s) → Stopped P mid one.place s rest → Stopped P bytes at r rest
-stopped_behind P bytes at r mid s rest one two = record { place = two.place; code = two.code; is = one.is ∙ two.is; early = omega (arith, two.early, one.counted); other = two.other }
+pub stopped_behind : (binds : Bool) (P : Protocol) (bytes : List ℕ) (at : ℕ) (r : Reading) (mid : List ℕ) (s : Reading) (rest : List ℕ) → (one : Through binds P bytes at r mid s) → Stopped binds P mid one.place s rest → Stopped binds P bytes at r rest
+stopped_behind binds P bytes at r mid s rest one two = record { place = two.place; code = two.code; is = one.is ∙ two.is; early = omega (arith, two.early, one.counted); other = two.other }
 
-pub stopped_sooner : (P : Protocol) (bytes : List ℕ) (at : ℕ) (r : Reading) (mid rest : List ℕ) → length rest ≤ length mid → Stopped P bytes at r mid → Stopped P bytes at r rest
-stopped_sooner P bytes at r mid rest le one = record { place = one.place; code = one.code; is = one.is; early = omega (arith, one.early, le); other = one.other }
+pub stopped_sooner : (binds : Bool) (P : Protocol) (bytes : List ℕ) (at : ℕ) (r : Reading) (mid rest : List ℕ) → length rest ≤ length mid → Stopped binds P bytes at r mid → Stopped binds P bytes at r rest
+stopped_sooner binds P bytes at r mid rest le one = record { place = one.place; code = one.code; is = one.is; early = omega (arith, one.early, le); other = one.other }
 
-pub comes_behind : (P : Protocol) (bytes : List ℕ) (at : ℕ) (r : Reading) (mid : List ℕ) (s : Reading) (rest : List ℕ) (heads : List Open) → (one : Through P bytes at r mid s) → Comes P mid one.place s rest heads → Comes P bytes at r rest heads
-comes_behind P bytes at r mid s rest heads one (inl two) = inl (stopped_behind P bytes at r mid s rest one two)
-comes_behind P bytes at r mid s rest heads one (inr two) =
-    inr record { term = two.term; since = two.since; through = through_both P bytes at r mid s rest (reading heads (Ended two.term) two.since) one two.through }
+pub comes_behind : (binds : Bool) (P : Protocol) (bytes : List ℕ) (at : ℕ) (r : Reading) (mid : List ℕ) (s : Reading) (rest : List ℕ) (heads : List Open) → (one : Through binds P bytes at r mid s) → Comes binds P mid one.place s rest heads → Comes binds P bytes at r rest heads
+comes_behind binds P bytes at r mid s rest heads one (inl two) = inl (stopped_behind binds P bytes at r mid s rest one two)
+comes_behind binds P bytes at r mid s rest heads one (inr two) =
+    inr record { term = two.term; since = two.since; through = through_both binds P bytes at r mid s rest (reading heads (Ended two.term) two.since) one two.through }
 
 -- a step goes on, or tells a fault
-pub one_byte : (P : Protocol) (b : ℕ) (rest : List ℕ) (at : ℕ) (r s : Reading) → step P at r b ≡ Goes s → Through P (b ∷ rest) at r rest s
-one_byte P b rest at r s e = record { place = at + 1; is = goes_to P b rest at r s e; counted = omega arith }
+pub one_byte : (binds : Bool) (P : Protocol) (b : ℕ) (rest : List ℕ) (at : ℕ) (r s : Reading) → step binds P at r b ≡ Goes s → Through binds P (b ∷ rest) at r rest s
+one_byte binds P b rest at r s e = record { place = at + 1; is = goes_to binds P b rest at r s e; counted = omega arith }
 
-pub halts : (P : Protocol) (b : ℕ) (bytes : List ℕ) (at : ℕ) (r : Reading) (rest : List ℕ) (place : ℕ) (code : Code) → step P at r b ≡ Fault place code → place + length rest + 1 ≤ at + length (b ∷ bytes) → code ≢ Syntax → Stopped P (b ∷ bytes) at r rest
-halts P b bytes at r rest place code e early other = record { place = place; code = code; is = ap (followed (read_on P bytes (at + 1)) at (b ∷ bytes)) e; early = early; other = other }
+pub halts : (binds : Bool) (P : Protocol) (b : ℕ) (bytes : List ℕ) (at : ℕ) (r : Reading) (rest : List ℕ) (place : ℕ) (code : Code) → step binds P at r b ≡ Fault place code → place + length rest + 1 ≤ at + length (b ∷ bytes) → code ≢ Syntax → Stopped binds P (b ∷ bytes) at r rest
+halts binds P b bytes at r rest place code e early other = record { place = place; code = code; is = ap (followed (read_on binds P bytes (at + 1)) at (b ∷ bytes)) e; early = early; other = other }
 
 -- `]` begins no term
 pub begins_no_bracket : (b : ℕ) → begins_term b ≡ true → (b == 93) ≡ false
@@ -95,26 +95,26 @@ deep_or heads from s = by (is_deep heads) refl
     by false room = inl (passed (is_deep heads) (Fault from Count) s s room refl)
 
 -- where a term may begin, a byte other than `]` begins it, unless the innermost symbol is too deep
-pub begins_or : (at : ℕ) (heads : List Open) (b : ℕ) → (b == 93) ≡ false → StandsBefore heads at → (at_begin at heads b ≡ begin_term at heads b) ⊎ ((place : ℕ) × (at_begin at heads b ≡ Fault place Count) × (place + 1 ≤ at))
+pub begins_or : (binds : Bool) (at : ℕ) (heads : List Open) (b : ℕ) → (b == 93) ≡ false → StandsBefore heads at → (at_begin binds at heads b ≡ begin_term binds at heads b) ⊎ ((place : ℕ) × (at_begin binds at heads b ≡ Fault place Count) × (place + 1 ≤ at))
 unfolding StandsBefore
-begins_or at [] b no_bracket before = inl refl
-begins_or at (o ∷ heads) b no_bracket before =
-    let begun = begin_term at (o ∷ heads) b in
+begins_or binds at [] b no_bracket before = inl refl
+begins_or binds at (o ∷ heads) b no_bracket before =
+    let begun = begin_term binds at (o ∷ heads) b in
     let stays : ((b == 93) && may_be_empty o.symbol o.arguments) ≡ false = ap (λ c. c && may_be_empty o.symbol o.arguments) no_bracket in
     either (deep_or heads o.place begun)
     (λ room. inl (passed ((b == 93) && may_be_empty o.symbol o.arguments) (closed o heads []) (unless_deep heads o.place begun) begun stays room))
     (λ deep. inr (o.place, passed ((b == 93) && may_be_empty o.symbol o.arguments) (closed o heads []) (unless_deep heads o.place begun) (Fault o.place Count) stays deep, before))
 
 -- a word is read up to what follows it, or a fault is told that stands before it
-pub word_through : (P : Protocol) (w k : List ℕ) (at : ℕ) (heads : List Open) (from : ℕ) → IsWord w → StandsBefore heads at → Stopped P (w ++ k) at (reading heads Begins from) (w ++ k) ⊎ Through P (w ++ k) at (reading heads Begins from) k (reading heads (InWord w) at)
-word_through P [] k at heads from word before = absurd (no_word word)
-word_through P (c ∷ w) k at heads from word before =
-    let begun : begin_term at heads c ≡ goes heads (InWord (c ∷ [])) at = taken (begins_word c) (goes heads (InWord (c ∷ [])) at) _ _ word.begins refl in
-    either (begins_or at heads c (begins_no_bracket c (ap (λ t. t || (c == 40) || (c == 64)) word.begins)) before)
+pub word_through : (binds : Bool) (P : Protocol) (w k : List ℕ) (at : ℕ) (heads : List Open) (from : ℕ) → IsWord w → StandsBefore heads at → Stopped binds P (w ++ k) at (reading heads Begins from) (w ++ k) ⊎ Through binds P (w ++ k) at (reading heads Begins from) k (reading heads (InWord w) at)
+word_through binds P [] k at heads from word before = absurd (no_word word)
+word_through binds P (c ∷ w) k at heads from word before =
+    let begun : begin_term binds at heads c ≡ goes heads (InWord (c ∷ [])) at = taken (begins_word c) (goes heads (InWord (c ∷ [])) at) _ _ word.begins refl in
+    either (begins_or binds at heads c (begins_no_bracket c (ap (λ t. t || (c == 40) || (c == 64) || (c == 63)) word.begins)) before)
     (λ begins. inr record {
       place = at + 1 + length w;
-      is = goes_to P c (w ++ k) at (reading heads Begins from) (reading heads (InWord (c ∷ [])) at) (begins ∙ begun)
-          ∙ word_read P w (c ∷ []) k (at + 1) heads at (both_right (is_in_word c) (list_all is_in_word w) word.goes_on);
+      is = goes_to binds P c (w ++ k) at (reading heads Begins from) (reading heads (InWord (c ∷ [])) at) (begins ∙ begun)
+          ∙ word_read binds P w (c ∷ []) k (at + 1) heads at (both_right (is_in_word c) (list_all is_in_word w) word.goes_on);
       counted = omega (arith, length-append w k);
     })
-    (λ deep. inl (halts P c (w ++ k) at (reading heads Begins from) (c ∷ (w ++ k)) deep.0 Count deep.1 (omega (arith, deep.2)) (λ e. cc)))
+    (λ deep. inl (halts binds P c (w ++ k) at (reading heads Begins from) (c ∷ (w ++ k)) deep.0 Count deep.1 (omega (arith, deep.2)) (λ e. cc)))

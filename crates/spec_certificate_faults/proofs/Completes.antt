@@ -1,5 +1,5 @@
 -- Where a term may begin, each tree of the grammar may stand, and some text goes on behind it.
-use Rattle.std.proofs.Common.{◌≤◌, ◌≡◌, ℕ, suc, ◌+◌, true, List, [], ◌∷◌, ◌++◌, length, refl, sym, ◌∙◌, ap, subst, arith, append_assoc, length-append, ◌&&◌}
+use Rattle.std.proofs.Common.{◌≤◌, ◌≡◌, ℕ, suc, ◌+◌, inl, true, List, [], ◌∷◌, ◌++◌, length, refl, sym, ◌∙◌, ap, subst, arith, append_assoc, length-append, ◌&&◌}
 use Rattle.std.specs.List.{AllByRecursion}
 use Rattle.spec_trees.specs.Tree.{Leaf, Node, none, more, items_of}
 use Rattle.spec_protocol_tokens.specs.Bytes.{begins_word}
@@ -13,7 +13,7 @@ use Rattle.spec_certificate_faults.proofs.Trees.{ends_behind}
 
 -- a word of one letter
 pub one_letter : (b : ℕ) → begins_word b ≡ true → IsInGrammar (Leaf (b ∷ []))
-one_letter b begins = record { begins = begins; goes_on = ap (λ t. t && true) (begins_word-in_word b begins) }
+one_letter b begins = inl record { begins = begins; goes_on = ap (λ t. t && true) (begins_word-in_word b begins) }
 
 abbrev pub simple : Loose
 simple = Leaf (97 ∷ [])

@@ -1,4 +1,5 @@
 pub mod Comes
+pub mod Bound
 pub mod Heads
 pub mod Trees
 pub mod Fronts

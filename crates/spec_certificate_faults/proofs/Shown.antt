@@ -13,6 +13,7 @@ use Rattle.spec_certificate_text.specs.Spelled.{IsWord}
 use Rattle.spec_certificate_text.specs.Words.{symbol_word}
 use Rattle.spec_certificate_text.specs.Text.{term_text}
 use Rattle.spec_certificate_text.specs.OfProtocol.{HasNames}
+use Rattle.spec_certificate_text.proofs.Apart.{digits_in_word}
 use Rattle.spec_certificate_text.proofs.Names.{constructor_word, free_word, symbol_word_is_word, restriction_word_is_word}
 use Rattle.spec_certificate_text.proofs.Runs.{both_left}
 use Rattle.spec_certificate_text.specs.Terms.{Code, Syntax, Number, Symbol, Arity, Count, NodeOrder, NodeLarge}
@@ -20,7 +21,6 @@ use Rattle.spec_certificate_text.proofs.Long.{onto_long}
 use Rattle.spec_certificate_faults.specs.Grammar.{IsInGrammar, MayBegin}
 use Rattle.spec_certificate_faults.specs.TermFaults.{begins_term, AreNoNumber, TakesOthers, TermFault, StandsInTerm}
 use Rattle.spec_certificate_faults.specs.First.{IsTermText}
-use Rattle.spec_certificate_faults.proofs.Told.{digits_in_word}
 use Rattle.spec_certificate_faults.proofs.Standing.{BeginsTerm, word_begins}
 use Rattle.spec_certificate_faults.proofs.Completes.{one_letter, simple, simple_in, completes}
 
@@ -48,18 +48,25 @@ tuple_of_two = Node Tupled (more simple (more simple none))
 attackers_name : Loose
 attackers_name = Node Attackers (more simple none)
 
+bound_zero : Loose
+bound_zero = Leaf (63 ∷ 48 ∷ [])
+
 begins_tree : (b : ℕ) → begins_term b ≡ true → BeginsTree b
-unfolding tuple_of_two attackers_name
+unfolding tuple_of_two attackers_name bound_zero
 begins_tree b begins = by (begins_word b) refl begins
   where
     same : (c : ℕ) → (b == c) ≡ true → b ≡ c
     same c e = grind (arith, nat_tests)
 
-    by_mark : (opens : Bool) → (b == 40) ≡ opens → (opens || (b == 64)) ≡ true → BeginsTree b
-    by_mark true is marked = record { tree = tuple_of_two; is = (tt, omega arith, (simple_in, (simple_in, tt))); begins = λ tail. (onto simple (44 ∷ onto simple (41 ∷ tail)), ap (λ c. c ∷ onto simple (44 ∷ onto simple (41 ∷ tail))) (sym (same 40 is)), omega (arith, onto_long simple (44 ∷ onto simple (41 ∷ tail)), onto_long simple (41 ∷ tail))) }
-    by_mark false isnt marked = record { tree = attackers_name; is = (tt, refl, (simple_in, tt)); begins = λ tail. (91 ∷ onto simple (93 ∷ tail), ap (λ c. c ∷ 91 ∷ onto simple (93 ∷ tail)) (sym (same 64 marked)), omega (arith, onto_long simple (93 ∷ tail))) }
+    by_sign : (at_sign : Bool) → (b == 64) ≡ at_sign → (at_sign || (b == 63)) ≡ true → BeginsTree b
+    by_sign true is marked = record { tree = attackers_name; is = (tt, refl, (simple_in, tt)); begins = λ tail. (91 ∷ onto simple (93 ∷ tail), ap (λ c. c ∷ 91 ∷ onto simple (93 ∷ tail)) (sym (same 64 is)), omega (arith, onto_long simple (93 ∷ tail))) }
+    by_sign false isnt marked = record { tree = bound_zero; is = inr record { digits = 48 ∷ []; some = omega arith; all = refl; is = refl }; begins = λ tail. (48 ∷ tail, ap (λ c. c ∷ 48 ∷ tail) (sym (same 63 marked)), omega arith) }
 
-    by : (word : Bool) → begins_word b ≡ word → (word || (b == 40) || (b == 64)) ≡ true → BeginsTree b
+    by_mark : (opens : Bool) → (b == 40) ≡ opens → (opens || (b == 64) || (b == 63)) ≡ true → BeginsTree b
+    by_mark true is marked = record { tree = tuple_of_two; is = (tt, omega arith, (simple_in, (simple_in, tt))); begins = λ tail. (onto simple (44 ∷ onto simple (41 ∷ tail)), ap (λ c. c ∷ onto simple (44 ∷ onto simple (41 ∷ tail))) (sym (same 40 is)), omega (arith, onto_long simple (44 ∷ onto simple (41 ∷ tail)), onto_long simple (41 ∷ tail))) }
+    by_mark false isnt marked = by_sign (b == 64) refl marked
+
+    by : (word : Bool) → begins_word b ≡ word → (word || (b == 40) || (b == 64) || (b == 63)) ≡ true → BeginsTree b
     by true word marked = record { tree = Leaf (b ∷ []); is = one_letter b word; begins = λ tail. (tail, refl, omega arith) }
     by false no_word marked = by_mark (b == 40) refl marked
 
@@ -96,7 +103,13 @@ past_variable : (bytes : List ℕ) (level : ℕ) (here there : List ℕ) → May
 past_variable bytes level here there may [] behind wrong text stand = absurd (let some = wrong.some in omega (arith, some))
 past_variable bytes level here there may (d ∷ ds) behind wrong text stand =
     past_behind bytes level here may (118 ∷ []) there text d (ds ++ behind) stand (Leaf (118 ∷ d ∷ []))
-    record { begins = refl; goes_on = digits_in_word (d ∷ []) (ap (λ t. t && true) (first_digit d ds wrong)) } (λ tail. (tail, refl, omega arith))
+    (inl record { begins = refl; goes_on = digits_in_word (d ∷ []) (ap (λ t. t && true) (first_digit d ds wrong)) }) (λ tail. (tail, refl, omega arith))
+
+past_bound : (bytes : List ℕ) (level : ℕ) (here there : List ℕ) → MayBegin bytes level here → (digits behind : List ℕ) → AreNoNumber digits → here ≡ 63 ∷ there → there ≡ digits ++ behind → GoesPast bytes there
+past_bound bytes level here there may [] behind wrong text stand = absurd (let some = wrong.some in omega (arith, some))
+past_bound bytes level here there may (d ∷ ds) behind wrong text stand =
+    past_behind bytes level here may (63 ∷ []) there text d (ds ++ behind) stand (Leaf (63 ∷ d ∷ []))
+    (inr record { digits = d ∷ []; some = omega arith; all = ap (λ t. t && true) (first_digit d ds wrong); is = refl }) (λ tail. (tail, refl, omega arith))
 
 past_point : (bytes : List ℕ) (level : ℕ) (here there : List ℕ) → MayBegin bytes level here → (word digits behind : List ℕ) → IsWord word → AreNoNumber digits → here ≡ word ++ (64 ∷ there) → there ≡ digits ++ behind → GoesPast bytes there
 past_point bytes level here there may word [] behind is_word wrong text stand = absurd (let some = wrong.some in omega (arith, some))
@@ -118,18 +131,20 @@ misapplied_begins P names Attacker ts k wrong = absurd wrong
 begins_at : (here text : List ℕ) → here ≡ text → BeginsTerm text → BeginsTerm here
 begins_at here text e is = subst BeginsTerm (sym e) is
 
-pub fault_shown : (P : Protocol) → HasNames P → (code : Code) (bytes there : List ℕ) → StandsInTerm P code bytes there → GoesPast bytes there
-fault_shown P names code bytes there is = by code is.fault
+pub fault_shown : (binds : Bool) (P : Protocol) → HasNames P → (code : Code) (bytes there : List ℕ) → StandsInTerm binds P code bytes there → GoesPast bytes there
+fault_shown binds P names code bytes there is = by code is.fault
   where
     at_here : BeginsTerm is.here → there ≡ is.here → GoesPast bytes there
     at_here begins same = subst (GoesPast bytes) (sym same) (past_here bytes is.level is.here is.may begins)
 
-    by : (c : Code) → TermFault P is.level is.here c there → GoesPast bytes there
+    by : (c : Code) → TermFault binds P is.level is.here c there → GoesPast bytes there
     by Syntax fault = absurd fault
     by Number (inl fault) = past_variable bytes is.level is.here there is.may fault.digits fault.behind fault.wrong fault.text fault.stand
-    by Number (inr fault) = past_point bytes is.level is.here there is.may fault.word fault.digits fault.behind fault.is_word fault.wrong fault.text fault.stand
+    by Number (inr (inl fault)) = past_bound bytes is.level is.here there is.may fault.digits fault.behind fault.wrong fault.text fault.stand
+    by Number (inr (inr fault)) = past_point bytes is.level is.here there is.may fault.word fault.digits fault.behind fault.is_word fault.wrong fault.text fault.stand
     by Symbol (same, inl fault) = at_here (begins_at is.here (fault.word ++ fault.next ∷ fault.behind) fault.text (word_begins fault.word (fault.next ∷ fault.behind) fault.is_word)) same
-    by Symbol (same, inr fault) = at_here (begins_at is.here (fault.word ++ (64 ∷ (decimal fault.point ++ fault.behind))) fault.text (word_begins fault.word (64 ∷ (decimal fault.point ++ fault.behind)) fault.is_word)) same
+    by Symbol (same, inr (inl fault)) = at_here record { first = 63; later = fault.behind; text = fault.text; begins = refl } same
+    by Symbol (same, inr (inr fault)) = at_here (begins_at is.here (fault.word ++ (64 ∷ (decimal fault.point ++ fault.behind))) fault.text (word_begins fault.word (64 ∷ (decimal fault.point ++ fault.behind)) fault.is_word)) same
     by Arity (same, fault) = at_here (begins_at is.here (term_text P (node fault.symbol fault.arguments) fault.behind) fault.text (misapplied_begins P names fault.symbol fault.arguments fault.behind fault.wrong)) same
     by Count (same, fault) = at_here record { first = fault.first; later = fault.later; text = fault.text; begins = fault.begins } same
     by NodeOrder fault = absurd fault

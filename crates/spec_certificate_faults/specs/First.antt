@@ -1,5 +1,5 @@
 -- The first fault of some bytes, by its place and then by the number of its code.
-use Rattle.std.specs.Prelude.{◌≡◌, ℕ, ◌+◌, ◌<◌, ◌≤◌, ◌⊎◌, List, [], ◌∷◌, ◌++◌, length}
+use Rattle.std.specs.Prelude.{◌≡◌, ℕ, ◌+◌, ◌<◌, ◌≤◌, ◌⊎◌, Bool, true, false, List, [], ◌∷◌, ◌++◌, length}
 use Rattle.spec_calculus.specs.Syntax.{Protocol}
 use Rattle.spec_certificate_text.specs.Loose.{Loose, onto}
 use Rattle.spec_certificate_text.specs.Terms.{Code, Syntax, Number, Symbol, Arity, Count, NodeOrder, NodeLarge}
@@ -72,5 +72,13 @@ pub record IsTermText (bytes rest : List ℕ) : Type 0 where
   pub more : rest ≡ next ∷ later
   pub text : bytes ≡ onto tree rest
 
+-- terms as they stand in constraints, or in facts
+abbrev pub terms_in : Bool → Protocol → Kind
+terms_in binds P = record { Text = IsTermText; Fault = StandsInTerm binds P }
+
+-- terms of facts, and sides of constraints
 abbrev pub terms : Protocol → Kind
-terms P = record { Text = IsTermText; Fault = StandsInTerm P }
+terms P = terms_in false P
+
+abbrev pub sides : Protocol → Kind
+sides P = terms_in true P

@@ -1,9 +1,9 @@
 -- The trees of the grammar, whatever their words name, and where in some bytes a term may begin.
-use Rattle.std.specs.Prelude.{◌≡◌, ℕ, suc, ◌≤◌, Bool, false, List, [], ◌∷◌, length}
+use Rattle.std.specs.Prelude.{◌≡◌, ℕ, suc, ◌≤◌, ◌⊎◌, Bool, false, List, [], ◌∷◌, length}
 use Rattle.std.specs.List.{AllByRecursion}
 use Rattle.spec_trees.specs.Tree.{Leaf, Node, none, more, items_of}
 use Rattle.spec_certificate_text.specs.Loose.{Head, Applied, Tupled, Made, Attackers, Loose, LooseRow, opening, onto}
-use Rattle.spec_certificate_text.specs.Spelled.{IsWord, AreDigits, goes_on}
+use Rattle.spec_certificate_text.specs.Spelled.{IsWord, AreDigits, IsBoundWord, goes_on}
 
 -- the word of a head is a word, and its digits are digits, one at least
 abbrev pub IsWritten : Head → Type 0
@@ -22,7 +22,7 @@ MayHave Attackers n = n ≡ 1
 -- a tree of the grammar
 abbrev mutual
   pub IsInGrammar : Loose → Type 0
-  IsInGrammar (Leaf word) = IsWord word
+  IsInGrammar (Leaf word) = IsWord word ⊎ IsBoundWord word
   IsInGrammar (Node head arguments) = IsWritten head × MayHave head (length (items_of arguments)) × AreInGrammar arguments
 
   pub AreInGrammar : LooseRow → Type 0

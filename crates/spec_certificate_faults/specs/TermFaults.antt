@@ -9,7 +9,7 @@ use Rattle.spec_calculus.specs.Syntax.{Protocol}
 use Rattle.spec_protocol_tokens.specs.Bytes.{begins_word, is_in_word}
 use Rattle.spec_protocol_scope.specs.Names.{is_variable}
 use Rattle.spec_terms.specs.Term.{Sym, Ctor, Data, Tuple, Free, Attacker, Term}
-use Rattle.spec_certificate_text.specs.OfProtocol.{IsShort, IsRestriction, IsSymbolOf, IsTermOf}
+use Rattle.spec_certificate_text.specs.OfProtocol.{IsShort, IsRestriction, IsSymbolOf, IsTermBelow, most_variables}
 use Rattle.spec_certificate_text.specs.Words.{symbol_word, word_at}
 use Rattle.spec_certificate_text.specs.Written.{written}
 use Rattle.spec_certificate_text.specs.Text.{term_text}
@@ -32,6 +32,15 @@ pub record IsNoVariable (here there : List ℕ) : Type 0 where
   pub stand : there ≡ digits ++ behind
   pub wrong : AreNoNumber digits
   pub ends : EndsAt goes_on behind
+
+-- those of a bound variable
+pub record IsNoBound (here there : List ℕ) : Type 0 where
+  pub digits : List ℕ
+  pub behind : List ℕ
+  pub text : here ≡ 63 ∷ there
+  pub stand : there ≡ digits ++ behind
+  pub wrong : AreNoNumber digits
+  pub ends : EndsAt is_ascii_digit behind
 
 -- those behind a word and `@`
 pub record IsNoPoint (here there : List ℕ) : Type 0 where
@@ -76,6 +85,12 @@ pub record NamesNoRestriction (P : Protocol) (here : List ℕ) : Type 0 where
   pub ends : EndsAt is_ascii_digit behind
   pub none : (n : ℕ) → IsRestriction P point n → word_at P point ≢ word
 
+-- a bound variable begins outside of constraints
+pub record IsUnbound (binds : Bool) (here : List ℕ) : Type 0 where
+  pub outside : binds ≡ false
+  pub behind : List ℕ
+  pub text : here ≡ 63 ∷ behind
+
 -- Arity: a symbol over terms of the protocol, none too deep, of which it takes another number.
 
 abbrev pub TakesOthers : Protocol → Sym → ℕ → Type 0
@@ -84,23 +99,23 @@ TakesOthers P Attacker n = ⊥
 TakesOthers P symbol n = (arity : ℕ) × IsSymbolOf P symbol arity × (arity ≢ n)
 
 -- so many levels stand above
-abbrev pub MayStandBelow : Protocol → ℕ → Term → Type 0
-MayStandBelow P above t = IsTermOf P t × (above + depth t ≤ most_term_levels)
+abbrev pub MayStandBelow : Bool → Protocol → ℕ → Term → Type 0
+MayStandBelow binds P above t = IsTermBelow (most_variables binds) P t × (above + depth t ≤ most_term_levels)
 
-pub record IsMisapplied (P : Protocol) (level : ℕ) (here : List ℕ) : Type 0 where
+pub record IsMisapplied (binds : Bool) (P : Protocol) (level : ℕ) (here : List ℕ) : Type 0 where
   pub symbol : Sym
   pub arguments : List Term
   pub behind : List ℕ
   pub text : here ≡ term_text P (node symbol arguments) behind
   pub ends : EndsBefore (written P (node symbol arguments)) behind
-  pub each : AllByRecursion (MayStandBelow P level) arguments
+  pub each : AllByRecursion (MayStandBelow binds P level) arguments
   pub wrong : TakesOthers P symbol (length arguments)
 
 -- Count: a term begins that is too deep.
 
--- a term may begin with the byte: with a letter or `_`, with `(` or with `@`
+-- a term may begin with the byte: with a letter or `_`, with `(`, with `@` or with `?`
 abbrev pub begins_term : ℕ → Bool
-begins_term b = begins_word b || (b == 40) || (b == 64)
+begins_term b = begins_word b || (b == 40) || (b == 64) || (b == 63)
 
 pub record IsTooDeep (level : ℕ) (here : List ℕ) : Type 0 where
   pub first : ℕ
@@ -109,19 +124,19 @@ pub record IsTooDeep (level : ℕ) (here : List ℕ) : Type 0 where
   pub begins : begins_term first ≡ true
   pub deep : most_term_levels < level
 
--- the fault of this code stands at the one place, where a term of the level begins at the other
-abbrev pub TermFault : Protocol → ℕ → List ℕ → Code → List ℕ → Type 0
-TermFault P level here Syntax there = ⊥
-TermFault P level here Number there = IsNoVariable here there ⊎ IsNoPoint here there
-TermFault P level here Symbol there = (there ≡ here) × (NamesNothing P here ⊎ NamesNoRestriction P here)
-TermFault P level here Arity there = (there ≡ here) × IsMisapplied P level here
-TermFault P level here Count there = (there ≡ here) × IsTooDeep level here
-TermFault P level here NodeOrder there = ⊥
-TermFault P level here NodeLarge there = ⊥
+-- the fault of this code stands at the one place, where a term of the level begins at the other, in a constraint or in a fact
+abbrev pub TermFault : Bool → Protocol → ℕ → List ℕ → Code → List ℕ → Type 0
+TermFault binds P level here Syntax there = ⊥
+TermFault binds P level here Number there = IsNoVariable here there ⊎ IsNoBound here there ⊎ IsNoPoint here there
+TermFault binds P level here Symbol there = (there ≡ here) × (NamesNothing P here ⊎ IsUnbound binds here ⊎ NamesNoRestriction P here)
+TermFault binds P level here Arity there = (there ≡ here) × IsMisapplied binds P level here
+TermFault binds P level here Count there = (there ≡ here) × IsTooDeep level here
+TermFault binds P level here NodeOrder there = ⊥
+TermFault binds P level here NodeLarge there = ⊥
 
 -- it stands in the bytes, which a term begins
-pub record StandsInTerm (P : Protocol) (code : Code) (bytes there : List ℕ) : Type 0 where
+pub record StandsInTerm (binds : Bool) (P : Protocol) (code : Code) (bytes there : List ℕ) : Type 0 where
   pub level : ℕ
   pub here : List ℕ
   pub may : MayBegin bytes level here
-  pub fault : TermFault P level here code there
+  pub fault : TermFault binds P level here code there

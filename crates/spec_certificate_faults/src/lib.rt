@@ -13,26 +13,31 @@
 //! below, which do nothing.
 #![tactic(auto)]
 
-ghost use Rattle.std.specs.Prelude.{◌≡◌, ◌↔◌, ℕ, List};
+ghost use Rattle.std.specs.Prelude.{◌≡◌, ◌↔◌, ℕ, Bool, List};
 ghost use Rattle.spec_calculus.specs.Syntax.{Protocol};
 ghost use Rattle.spec_terms.specs.Term.{Term};
 ghost use Rattle.spec_certificate_text.specs.OfProtocol.{HasNames};
 ghost use Rattle.spec_certificate_text.specs.Terms.{Code};
-ghost use Rattle.spec_certificate_text.specs.Runs.{Done, Refused, read_term};
-ghost use Rattle.spec_certificate_faults.specs.First.{StandsAt, IsFirstFault, IsTermText, terms};
+ghost use Rattle.spec_certificate_text.specs.Runs.{Done, Refused, read_tree};
+ghost use Rattle.spec_certificate_faults.specs.First.{StandsAt, IsFirstFault};
+ghost use Rattle.spec_certificate_faults.specs.First.{IsTermText, terms_in};
 
-/// Of a term the first fault is told, and it is told exactly where there is one: what is read is a text of the grammar, and no
-/// fault stands in it.
+/// Of a term, and of a side of a constraint, the first fault is told, and it is told exactly where there is one: what is read is a
+/// text of the grammar, and no fault stands in it.
 pub fn the_first_fault_of_a_term_is_told()
-    ensures told { (P : Protocol) (bytes : List ℕ) (at place : ℕ) (code : Code) → HasNames P →
-        (read_term P bytes at ≡ Refused place code) ↔ IsFirstFault (terms P) bytes at place code }
-    ensures none { (P : Protocol) (bytes : List ℕ) (at place other : ℕ) (t : Term)
-        (rest : List ℕ) (code : Code) →
-        HasNames P → read_term P bytes at ≡ Done t place rest →
-        StandsAt (terms P) bytes at other code → ⊥ }
-    ensures text { (P : Protocol) (bytes : List ℕ) (at place : ℕ) (t : Term) (rest : List ℕ) →
-        HasNames P → read_term P bytes at ≡ Done t place rest → IsTermText bytes rest }
-    ensures one { (P : Protocol) (bytes : List ℕ) (at place other : ℕ) (code another : Code) →
-        IsFirstFault (terms P) bytes at place code →
-        IsFirstFault (terms P) bytes at other another → (place ≡ other) × (code ≡ another) }
+    ensures told { (binds : Bool) (P : Protocol) (bytes : List ℕ) (at place : ℕ) (code : Code) →
+        HasNames P → (read_tree binds P bytes at ≡ Refused place code)
+        ↔ IsFirstFault (terms_in binds P) bytes at place code }
+    ensures none { (binds : Bool) (P : Protocol) (bytes : List ℕ) (at place other : ℕ)
+        (t : Term) (rest : List ℕ) (code : Code) →
+        HasNames P → read_tree binds P bytes at ≡ Done t place rest →
+        StandsAt (terms_in binds P) bytes at other code → ⊥ }
+    ensures text { (binds : Bool) (P : Protocol) (bytes : List ℕ) (at place : ℕ) (t : Term)
+        (rest : List ℕ) →
+        HasNames P → read_tree binds P bytes at ≡ Done t place rest → IsTermText bytes rest }
+    ensures one { (binds : Bool) (P : Protocol) (bytes : List ℕ) (at place other : ℕ)
+        (code another : Code) →
+        IsFirstFault (terms_in binds P) bytes at place code →
+        IsFirstFault (terms_in binds P) bytes at other another →
+        (place ≡ other) × (code ≡ another) }
 {}

@@ -1,13 +1,24 @@
 -- Loose trees are told apart by their texts, whatever follows.
-use Rattle.std.proofs.Common.{◌≡◌, ℕ, Bool, true, false, ◌==◌, ◌||◌, List, [], ◌∷◌, ◌++◌, refl, sym, ◌∙◌, ap, subst, arith}
+use Rattle.std.proofs.Common.{◌≡◌, ◌⊎◌, ℕ, Bool, true, false, ◌==◌, ◌||◌, ◌&&◌, List, [], ◌∷◌, ◌++◌, inl, inr, refl, sym, ◌∙◌, ap, subst, arith}
 use Rattle.std.specs.Char.{is_ascii_digit}
+use Rattle.std.specs.Int.{is_in_range}
 use Rattle.std.specs.List.{list_all}
 use Rattle.spec_trees.specs.Tree.{Leaf, Node, none, more}
 use Rattle.spec_trees.proofs.Occurrence.{or_false}
 use Rattle.spec_protocol_tokens.specs.Bytes.{is_in_word}
 use Rattle.spec_certificate_text.specs.Loose.{Head, Applied, Tupled, Made, Attackers, Loose, LooseRow, opening, closing, onto, row, behind}
-use Rattle.spec_certificate_text.specs.Spelled.{IsWord, IsHead, IsLoose, AreLoose, Stops, goes_on, EndsBehind}
-use Rattle.spec_certificate_text.proofs.Runs.{both_left, first_same, later_same, run_apart}
+use Rattle.spec_certificate_text.specs.Spelled.{IsWord, IsBoundWord, IsHead, IsLoose, AreLoose, Stops, goes_on, EndsBehind}
+use Rattle.spec_certificate_text.proofs.Runs.{both_left, both_right, first_same, later_same, run_apart}
+
+-- digits are bytes of words
+pub digit_in_word : (b : ℕ) → is_ascii_digit b ≡ true → is_in_word b ≡ true
+digit_in_word b e = ap (λ c. (((c || is_in_range 65 90 b) || is_in_range 97 122 b) || (b == 95)) || (b == 39)) e
+
+pub digits_in_word : (bytes : List ℕ) → list_all is_ascii_digit bytes ≡ true → list_all is_in_word bytes ≡ true
+digits_in_word [] e = refl
+digits_in_word (b ∷ bytes) e =
+    ap (λ c. c && list_all is_in_word bytes) (digit_in_word b (both_left (is_ascii_digit b) (list_all is_ascii_digit bytes) e))
+    ∙ digits_in_word bytes (both_right (is_ascii_digit b) (list_all is_ascii_digit bytes) e)
 
 pub no_word : IsWord [] → ⊥
 no_word h = let e : false ≡ true = h.begins in cc
@@ -97,12 +108,6 @@ never_tail Tupled k x stops e = not_40 k x stops e
 never_tail (Made w d) k x stops e = not_64 k (d ++ (91 ∷ x)) stops e
 never_tail Attackers k x stops e = not_64 k (91 ∷ x) stops e
 
--- a word alone is no head
-leaf_node : (w : List ℕ) (h : Head) (k x : List ℕ) → IsWord w → IsHead h → Stops goes_on k → w ++ k ≡ opening h x → ⊥
-leaf_node w h k x word is stops e =
-    let parts = run_apart is_in_word w (front h) k (tail h x) word.goes_on (front_is_word h is) (stops_word k stops) (tail_stops h x) (e ∙ opening-front h x) in
-    never_tail h k x stops parts.rest
-
 or_true : (a b : Bool) → a ≡ true → (a || b) ≡ true
 or_true a b e = ap (λ c. c || b) e
 
@@ -117,28 +122,48 @@ word_begins (b ∷ w) x c y word stops e =
     let passes : goes_on b ≡ true = word_goes_on b (both_left (is_in_word b) (list_all is_in_word w) word.goes_on) in
     let fails : goes_on b ≡ false = subst (λ d. goes_on d ≡ false) (sym first) stops in cc
 
+-- a head doesn't begin with `?`
+head_bound : (h : Head) (x y : List ℕ) → IsHead h → opening h x ≡ 63 ∷ y → ⊥
+head_bound (Applied w) x y is e = word_begins w (40 ∷ x) 63 y is refl e
+head_bound Tupled x y is e = let first = first_same 40 63 x y e in absurd (omega (arith, first))
+head_bound (Made w d) x y is e = word_begins w (64 ∷ (d ++ (91 ∷ x))) 63 y is.0 refl e
+head_bound Attackers x y is e = let first = first_same 64 63 (91 ∷ x) y e in absurd (omega (arith, first))
+
+-- a word alone is no head
+leaf_node : (w : List ℕ) (h : Head) (k x : List ℕ) → IsWord w ⊎ IsBoundWord w → IsHead h → Stops goes_on k → w ++ k ≡ opening h x → ⊥
+leaf_node w h k x (inl word) is stops e =
+    let parts = run_apart is_in_word w (front h) k (tail h x) word.goes_on (front_is_word h is) (stops_word k stops) (tail_stops h x) (e ∙ opening-front h x) in
+    never_tail h k x stops parts.rest
+leaf_node w h k x (inr bound) is stops e = head_bound h x (bound.digits ++ k) is (sym e ∙ ap (λ u. u ++ k) bound.is)
+
 not_begun : (b c : ℕ) (x y : List ℕ) → goes_on b ≡ true → goes_on c ≡ false → b ∷ x ≡ c ∷ y → ⊥
 not_begun b c x y passes stops e =
     let fails : goes_on b ≡ false = subst (λ d. goes_on d ≡ false) (sym (first_same b c x y e)) stops in cc
 
 -- nor does a tree
-pub tree_begins : (t : Loose) (x : List ℕ) (c : ℕ) (y : List ℕ) → IsLoose t → goes_on c ≡ false → onto t x ≡ c ∷ y → ⊥
-tree_begins (Leaf w) x c y is stops e = word_begins w x c y is stops e
-tree_begins (Node (Applied w) ts) x c y is stops e = word_begins w (40 ∷ row ts (41 ∷ x)) c y is.0 stops e
-tree_begins (Node Tupled ts) x c y is stops e = not_begun 40 c (row ts (41 ∷ x)) y refl stops e
-tree_begins (Node (Made w d) ts) x c y is stops e = word_begins w (64 ∷ (d ++ (91 ∷ row ts (93 ∷ x)))) c y is.0.0 stops e
-tree_begins (Node Attackers ts) x c y is stops e = not_begun 64 c (91 ∷ row ts (93 ∷ x)) y refl stops e
+pub tree_begins : (t : Loose) (x : List ℕ) (c : ℕ) (y : List ℕ) → IsLoose t → goes_on c ≡ false → (c ≡ 63 → ⊥) → onto t x ≡ c ∷ y → ⊥
+tree_begins (Leaf w) x c y (inl is) stops other e = word_begins w x c y is stops e
+tree_begins (Leaf w) x c y (inr is) stops other e = other (sym (first_same 63 c (is.digits ++ x) y (ap (λ v. v ++ x) (sym is.is) ∙ e)))
+tree_begins (Node (Applied w) ts) x c y is stops other e = word_begins w (40 ∷ row ts (41 ∷ x)) c y is.0 stops e
+tree_begins (Node Tupled ts) x c y is stops other e = not_begun 40 c (row ts (41 ∷ x)) y refl stops e
+tree_begins (Node (Made w d) ts) x c y is stops other e = word_begins w (64 ∷ (d ++ (91 ∷ row ts (93 ∷ x)))) c y is.0.0 stops e
+tree_begins (Node Attackers ts) x c y is stops other e = not_begun 64 c (91 ∷ row ts (93 ∷ x)) y refl stops e
 
 -- a byte that closes arguments
 record IsClose (c : ℕ) : Type 0 where
   stops : goes_on c ≡ false
   no_comma : c ≡ 44 → ⊥
+  no_bound : c ≡ 63 → ⊥
+
+-- `;` behind left sides
+semicolon_closes : IsClose 59
+semicolon_closes = record { stops = refl; no_comma = λ e. absurd (omega (arith, e)); no_bound = λ e. absurd (omega (arith, e)) }
 
 closes : (h : Head) → IsClose (closing h)
-closes (Applied w) = record { stops = refl; no_comma = λ e. absurd (omega (arith, e)) }
-closes Tupled = record { stops = refl; no_comma = λ e. absurd (omega (arith, e)) }
-closes (Made w d) = record { stops = refl; no_comma = λ e. absurd (omega (arith, e)) }
-closes Attackers = record { stops = refl; no_comma = λ e. absurd (omega (arith, e)) }
+closes (Applied w) = record { stops = refl; no_comma = λ e. absurd (omega (arith, e)); no_bound = λ e. absurd (omega (arith, e)) }
+closes Tupled = record { stops = refl; no_comma = λ e. absurd (omega (arith, e)); no_bound = λ e. absurd (omega (arith, e)) }
+closes (Made w d) = record { stops = refl; no_comma = λ e. absurd (omega (arith, e)); no_bound = λ e. absurd (omega (arith, e)) }
+closes Attackers = record { stops = refl; no_comma = λ e. absurd (omega (arith, e)); no_bound = λ e. absurd (omega (arith, e)) }
 
 -- within arguments each tree ends
 ends_within : (t : Loose) (ts : LooseRow) (c : ℕ) (k : List ℕ) → goes_on c ≡ false → EndsBehind t (behind ts (c ∷ k))
@@ -154,10 +179,17 @@ pub record RowsApart (ts us : LooseRow) (k l : List ℕ) : Type 0 where
   pub rows : ts ≡ us
   pub rest : k ≡ l
 
-leaves_apart : (v w k l : List ℕ) → IsWord v → IsWord w → Stops goes_on k → Stops goes_on l → v ++ k ≡ w ++ l → TreesApart (Leaf v) (Leaf w) k l
-leaves_apart v w k l is_v is_w stops_k stops_l e =
+-- two words, of which one may be a bound variable's
+leaves_apart : (v w k l : List ℕ) → IsWord v ⊎ IsBoundWord v → IsWord w ⊎ IsBoundWord w → Stops goes_on k → Stops goes_on l → v ++ k ≡ w ++ l → TreesApart (Leaf v) (Leaf w) k l
+leaves_apart v w k l (inl is_v) (inl is_w) stops_k stops_l e =
     let parts = run_apart is_in_word v w k l is_v.goes_on is_w.goes_on (stops_word k stops_k) (stops_word l stops_l) e in
     record { tree = ap Leaf parts.run; rest = parts.rest }
+leaves_apart v w k l (inl is_v) (inr is_w) stops_k stops_l e = absurd (word_begins v k 63 (is_w.digits ++ l) is_v refl (e ∙ ap (λ u. u ++ l) is_w.is))
+leaves_apart v w k l (inr is_v) (inl is_w) stops_k stops_l e = absurd (word_begins w l 63 (is_v.digits ++ k) is_w refl (sym e ∙ ap (λ u. u ++ k) is_v.is))
+leaves_apart v w k l (inr is_v) (inr is_w) stops_k stops_l e =
+    let same = later_same 63 63 (is_v.digits ++ k) (is_w.digits ++ l) (ap (λ u. u ++ k) (sym is_v.is) ∙ (e ∙ ap (λ u. u ++ l) is_w.is)) in
+    let parts = run_apart is_in_word is_v.digits is_w.digits k l (digits_in_word is_v.digits is_v.all) (digits_in_word is_w.digits is_w.all) (stops_word k stops_k) (stops_word l stops_l) same in
+    record { tree = ap Leaf (is_v.is ∙ (ap (λ ds. 63 ∷ ds) parts.run ∙ sym is_w.is)); rest = parts.rest }
 
 -- two trees with rests are one tree and one rest, where the texts are one
 mutual
@@ -173,8 +205,8 @@ mutual
 
   row_apart : (ts us : LooseRow) (c : ℕ) (k l : List ℕ) → IsClose c → AreLoose ts → AreLoose us → row ts (c ∷ k) ≡ row us (c ∷ l) → RowsApart ts us k l
   row_apart none none c k l close are_t are_u e = record { rows = refl; rest = later_same c c k l e }
-  row_apart none (more u us) c k l close are_t are_u e = absurd (tree_begins u (behind us (c ∷ l)) c k are_u.0 close.stops (sym e))
-  row_apart (more t ts) none c k l close are_t are_u e = absurd (tree_begins t (behind ts (c ∷ k)) c l are_t.0 close.stops e)
+  row_apart none (more u us) c k l close are_t are_u e = absurd (tree_begins u (behind us (c ∷ l)) c k are_u.0 close.stops close.no_bound (sym e))
+  row_apart (more t ts) none c k l close are_t are_u e = absurd (tree_begins t (behind ts (c ∷ k)) c l are_t.0 close.stops close.no_bound e)
   row_apart (more t ts) (more u us) c k l close are_t are_u e =
       let first = whole_apart t u (behind ts (c ∷ k)) (behind us (c ∷ l)) are_t.0 are_u.0 (ends_within t ts c k close.stops) (ends_within u us c l close.stops) e in
       let later = behind_apart ts us c k l close are_t.1 are_u.1 first.rest in
@@ -192,3 +224,7 @@ mutual
 -- rows before a `)` are told apart
 pub closed_rows_apart : (ts us : LooseRow) (k l : List ℕ) → AreLoose ts → AreLoose us → row ts (41 ∷ k) ≡ row us (41 ∷ l) → RowsApart ts us k l
 closed_rows_apart ts us k l are_t are_u e = row_apart ts us 41 k l (closes Tupled) are_t are_u e
+
+-- and rows before a `;`
+pub left_rows_apart : (ts us : LooseRow) (k l : List ℕ) → AreLoose ts → AreLoose us → row ts (59 ∷ k) ≡ row us (59 ∷ l) → RowsApart ts us k l
+left_rows_apart ts us k l are_t are_u e = row_apart ts us 59 k l semicolon_closes are_t are_u e

@@ -1,5 +1,5 @@
 -- Facts, clauses and certificates of a protocol are told apart by their texts, whatever follows.
-use Rattle.std.proofs.Common.{◌≡◌, ℕ, zero, suc, Bool, true, false, ◌==◌, List, [], ◌∷◌, ◌++◌, length, refl, sym, ◌∙◌, ap, subst, arith}
+use Rattle.std.proofs.Common.{◌≡◌, ℕ, ◌≤◌, zero, suc, Bool, true, false, ◌==◌, List, [], ◌∷◌, ◌++◌, length, refl, sym, ◌∙◌, ap, subst, arith}
 use Rattle.std.specs.Prelude.{codes}
 use Rattle.std.specs.Char.{is_ascii_digit}
 use Rattle.std.specs.Fmt.{decimal}
@@ -10,20 +10,23 @@ use Rattle.std.proofs.lemmas.Bool.Decides.{nat_tests}
 use Rattle.spec_trees.proofs.Rows.{trees-injective}
 use Rattle.spec_calculus.specs.Syntax.{Declared, Protocol}
 use Rattle.spec_terms.specs.Term.{Term}
+use Rattle.spec_clauses.specs.Diff.{Diff}
 use Rattle.spec_clauses.specs.Fact.{Fact, Att, Mess, Tab, Ev, Mev, Bad, Clause}
 use Rattle.spec_certificates.specs.Certificate.{Certificate}
 use Rattle.spec_protocol_tokens.specs.Bytes.{is_in_word}
 use Rattle.spec_certificate_text.specs.Loose.{Loose, LooseRow, row}
+use Rattle.spec_certificate_text.specs.Sides.{spelled_diff, meant_diff}
 use Rattle.spec_certificate_text.specs.Words.{declared_word, event_word, table_word}
 use Rattle.spec_certificate_text.specs.Written.{written, written_row, written_call, written_event, written_entry, LooseFact, written_fact}
-use Rattle.spec_certificate_text.specs.Text.{term_text, phase_text, fact_onto, fact_text, later_hypotheses, hypotheses_text, clause_text, clause_lines, numbers_text, row_lines, certificate_text}
+use Rattle.spec_certificate_text.specs.Text.{term_text, phase_text, fact_onto, fact_text, diff_text, later_diffs, diffs_text, later_hypotheses, hypotheses_text, clause_text, clause_lines, numbers_text, row_lines, certificate_text}
 use Rattle.spec_certificate_text.specs.Spelled.{IsWord, AreLoose, Stops, goes_on, EndsBehind}
-use Rattle.spec_certificate_text.specs.OfProtocol.{IsDeclaredOver, IsShort, IsTermOf, AreTermsOf, IsFactOf, IsClauseOf, IsCertificateOf, HasNames}
+use Rattle.spec_certificate_text.specs.OfProtocol.{IsDeclaredOver, IsShort, IsTermOf, AreTermsOf, most_side_variables, IsFactOf, IsDiffOf, IsClauseOf, IsCertificateOf, HasNames}
 use Rattle.spec_certificate_text.proofs.Runs.{first_same, later_same, run_apart}
-use Rattle.spec_certificate_text.proofs.Apart.{word_begins, whole_apart, closed_rows_apart}
+use Rattle.spec_certificate_text.proofs.Apart.{word_begins, whole_apart, closed_rows_apart, left_rows_apart}
+use Rattle.spec_certificate_text.proofs.Sides.{diff_meant}
 use Rattle.spec_certificate_text.proofs.Names.{event_word_is_word, table_word_is_word, decimal_digits, one_decimal}
 use Rattle.spec_certificate_text.proofs.Called.{HasOwnWords, events_own_words, tables_own_words}
-use Rattle.spec_certificate_text.proofs.Terms.{applied_is_loose, written_is_loose, written_are_loose, applied_apart, written_apart, rows_apart}
+use Rattle.spec_certificate_text.proofs.Terms.{applied_is_loose, written_is_loose, written_are_loose, side_rows_are_loose, applied_apart, written_apart, rows_apart, side_rows_apart}
 
 -- a text is that of one thing, and one rest
 pub record Same {X : Type 0} (x y : X) (k l : List ℕ) : Type 0 where
@@ -158,32 +161,102 @@ fact_apart P names f g k l is_f is_g e =
     let whole = loose_apart (written_fact P f) (written_fact P g) k l (fact_is_loose P names f is_f) (fact_is_loose P names g is_g) e in
     record { thing = written_facts_apart P names f g is_f is_g whole.thing; rest = whole.rest }
 
+same_front : (front k l : List ℕ) → front ++ k ≡ front ++ l → k ≡ l
+same_front [] k l e = e
+same_front (b ∷ front) k l e = same_front front k l (later_same b b (front ++ k) (front ++ l) e)
+
+-- Constraints.
+
+pub diff_apart : (P : Protocol) → HasNames P → (d e : Diff) (k l : List ℕ) → IsDiffOf P d → IsDiffOf P e → diff_text P d k ≡ diff_text P e l → Same d e k l
+diff_apart P names d e k l is_d is_e same =
+    let s = spelled_diff d in
+    let t = spelled_diff e in
+    let low : most_side_variables ≤ most_side_variables = omega arith in
+    let x = row (written_row P (trees s.right)) (41 ∷ k) in
+    let y = row (written_row P (trees t.right)) (41 ∷ l) in
+    let lefts = left_rows_apart (written_row P (trees s.left)) (written_row P (trees t.left)) x y (side_rows_are_loose most_side_variables low P names (trees s.left) is_d.left) (side_rows_are_loose most_side_variables low P names (trees t.left) is_e.left)
+    (same_front (codes "diff(") (row (written_row P (trees s.left)) (59 ∷ x)) (row (written_row P (trees t.left)) (59 ∷ y)) same) in
+    let rights = closed_rows_apart (written_row P (trees s.right)) (written_row P (trees t.right)) k l (side_rows_are_loose most_side_variables low P names (trees s.right) is_d.right) (side_rows_are_loose most_side_variables low P names (trees t.right) is_e.right) lefts.rest in
+    let left : s.left ≡ t.left = trees-injective s.left t.left (side_rows_apart most_side_variables low P names (trees s.left) (trees t.left) is_d.left is_e.left lefts.rows) in
+    let right : s.right ≡ t.right = trees-injective s.right t.right (side_rows_apart most_side_variables low P names (trees s.right) (trees t.right) is_d.right is_e.right rights.rows) in
+    let spelled : s ≡ t = λ i. record { left = left i; right = right i } in
+    record { thing = sym (diff_meant d is_d.own) ∙ (ap meant_diff spelled ∙ diff_meant e is_e.own); rest = rights.rest }
+
+later_diffs_apart : (P : Protocol) → HasNames P → (ds es : List Diff) (k l : List ℕ) → AllByRecursion (IsDiffOf P) ds → AllByRecursion (IsDiffOf P) es → later_diffs P ds k ≡ later_diffs P es l → Same ds es k l
+later_diffs_apart P names [] [] k l are_d are_e e = record { thing = refl; rest = later_same 32 32 k l e }
+later_diffs_apart P names [] (d ∷ ds) k l are_d are_e e = absurd (differ 32 44 k (32 ∷ diff_text P d (later_diffs P ds l)) refl e)
+later_diffs_apart P names (d ∷ ds) [] k l are_d are_e e = absurd (differ 44 32 (32 ∷ diff_text P d (later_diffs P ds k)) l refl e)
+later_diffs_apart P names (d ∷ ds) (b ∷ bs) k l are_d are_e e =
+    let x = diff_text P d (later_diffs P ds k) in
+    let y = diff_text P b (later_diffs P bs l) in
+    let first = diff_apart P names d b (later_diffs P ds k) (later_diffs P bs l) are_d.0 are_e.0 (later_same 32 32 x y (later_same 44 44 (32 ∷ x) (32 ∷ y) e)) in
+    let later = later_diffs_apart P names ds bs k l are_d.1 are_e.1 first.rest in
+    record { thing = ap (λ f. f ∷ ds) first.thing ∙ ap (λ fs. b ∷ fs) later.thing; rest = later.rest }
+
+-- with no hypotheses before them, and `=>` behind them
+diffs_apart : (P : Protocol) → HasNames P → (ds es : List Diff) (k l : List ℕ) → AllByRecursion (IsDiffOf P) ds → AllByRecursion (IsDiffOf P) es → diffs_text P ds (61 ∷ k) ≡ diffs_text P es (61 ∷ l) → Same ds es k l
+diffs_apart P names [] [] k l are_d are_e e = record { thing = refl; rest = later_same 61 61 k l e }
+diffs_apart P names [] (d ∷ ds) k l are_d are_e e = absurd (differ 61 100 k _ refl e)
+diffs_apart P names (d ∷ ds) [] k l are_d are_e e = absurd (differ 100 61 _ l refl e)
+diffs_apart P names (d ∷ ds) (b ∷ bs) k l are_d are_e e =
+    let first = diff_apart P names d b (later_diffs P ds (61 ∷ k)) (later_diffs P bs (61 ∷ l)) are_d.0 are_e.0 e in
+    let later = later_diffs_apart P names ds bs (61 ∷ k) (61 ∷ l) are_d.1 are_e.1 first.rest in
+    record { thing = ap (λ f. f ∷ ds) first.thing ∙ ap (λ fs. b ∷ fs) later.thing; rest = later_same 61 61 k l later.rest }
+
 -- Clauses.
 
-later_apart : (P : Protocol) → HasNames P → (hs gs : List (Fact Term)) (k l : List ℕ) → AllByRecursion (IsFactOf P) hs → AllByRecursion (IsFactOf P) gs → later_hypotheses P hs k ≡ later_hypotheses P gs l → Same hs gs k l
-later_apart P names [] [] k l are_h are_g e = record { thing = refl; rest = later_same 32 32 k l e }
-later_apart P names [] (g ∷ gs) k l are_h are_g e = absurd (differ 32 44 k (32 ∷ fact_text P g (later_hypotheses P gs l)) refl e)
-later_apart P names (h ∷ hs) [] k l are_h are_g e = absurd (differ 44 32 (32 ∷ fact_text P h (later_hypotheses P hs k)) l refl e)
-later_apart P names (h ∷ hs) (g ∷ gs) k l are_h are_g e =
-    let x = fact_text P h (later_hypotheses P hs k) in
-    let y = fact_text P g (later_hypotheses P gs l) in
-    let first = fact_apart P names h g (later_hypotheses P hs k) (later_hypotheses P gs l) are_h.0 are_g.0 (later_same 32 32 x y (later_same 44 44 (32 ∷ x) (32 ∷ y) e)) in
-    let later = later_apart P names hs gs k l are_h.1 are_g.1 first.rest in
-    record { thing = ap (λ f. f ∷ hs) first.thing ∙ ap (λ fs. g ∷ fs) later.thing; rest = later.rest }
+-- no fact begins as a constraint does, or as what stands behind both
+no_fact_begins_so : (P : Protocol) (f : Fact Term) (x y : List ℕ) → fact_text P f x ≡ 100 ∷ y → ⊥
+no_fact_begins_so P (Att k t) x y e = differ 97 100 _ y refl e
+no_fact_begins_so P (Mess k t u) x y e = differ 109 100 _ y refl e
+no_fact_begins_so P (Tab n ts) x y e = differ 116 100 _ y refl e
+no_fact_begins_so P (Ev n ts) x y e = differ 101 100 _ y refl e
+no_fact_begins_so P (Mev n ts) x y e = differ 109 100 _ y refl e
+no_fact_begins_so P (Bad ts) x y e = differ 98 100 _ y refl e
+
+record PremisesSame (hs gs : List (Fact Term)) (ds es : List Diff) (k l : List ℕ) : Type 0 where
+  hypotheses : hs ≡ gs
+  diffs : ds ≡ es
+  rest : k ≡ l
+
+-- constraints are no further hypothesis
+no_later : (P : Protocol) (g : Fact Term) (ds : List Diff) (k x : List ℕ) → later_diffs P ds k ≡ 44 ∷ 32 ∷ fact_text P g x → ⊥
+no_later P g [] k x e = differ 32 44 k (32 ∷ fact_text P g x) refl e
+no_later P g (d ∷ ds) k x e =
+    let y = diff_text P d (later_diffs P ds k) in
+    no_fact_begins_so P g x _ (sym (later_same 32 32 y (fact_text P g x) (later_same 44 44 (32 ∷ y) (32 ∷ fact_text P g x) e)))
+
+later_apart : (P : Protocol) → HasNames P → (hs gs : List (Fact Term)) (ds es : List Diff) (k l : List ℕ) → AllByRecursion (IsFactOf P) hs → AllByRecursion (IsFactOf P) gs → AllByRecursion (IsDiffOf P) ds → AllByRecursion (IsDiffOf P) es
+    → later_hypotheses P hs ds k ≡ later_hypotheses P gs es l → PremisesSame hs gs ds es k l
+later_apart P names [] [] ds es k l are_h are_g are_d are_e e = let both = later_diffs_apart P names ds es k l are_d are_e e in record { hypotheses = refl; diffs = both.thing; rest = both.rest }
+later_apart P names [] (g ∷ gs) ds es k l are_h are_g are_d are_e e = absurd (no_later P g ds k (later_hypotheses P gs es l) e)
+later_apart P names (h ∷ hs) [] ds es k l are_h are_g are_d are_e e = absurd (no_later P h es l (later_hypotheses P hs ds k) (sym e))
+later_apart P names (h ∷ hs) (g ∷ gs) ds es k l are_h are_g are_d are_e e =
+    let x = fact_text P h (later_hypotheses P hs ds k) in
+    let y = fact_text P g (later_hypotheses P gs es l) in
+    let first = fact_apart P names h g (later_hypotheses P hs ds k) (later_hypotheses P gs es l) are_h.0 are_g.0 (later_same 32 32 x y (later_same 44 44 (32 ∷ x) (32 ∷ y) e)) in
+    let later = later_apart P names hs gs ds es k l are_h.1 are_g.1 are_d are_e first.rest in
+    record { hypotheses = ap (λ f. f ∷ hs) first.thing ∙ ap (λ fs. g ∷ fs) later.hypotheses; diffs = later.diffs; rest = later.rest }
 
 no_fact_begins : (P : Protocol) → HasNames P → (f : Fact Term) (x y : List ℕ) → IsFactOf P f → fact_text P f x ≡ 61 ∷ y → ⊥
 no_fact_begins P names f x y is e =
     let loose = written_fact P f in
     word_begins loose.predicate (phase_text loose.phase (40 ∷ row loose.arguments (41 ∷ x))) 61 y (fact_is_loose P names f is).word refl e
 
-hypotheses_apart : (P : Protocol) → HasNames P → (hs gs : List (Fact Term)) (k l : List ℕ) → AllByRecursion (IsFactOf P) hs → AllByRecursion (IsFactOf P) gs → hypotheses_text P hs (61 ∷ k) ≡ hypotheses_text P gs (61 ∷ l) → Same hs gs k l
-hypotheses_apart P names [] [] k l are_h are_g e = record { thing = refl; rest = later_same 61 61 k l e }
-hypotheses_apart P names [] (g ∷ gs) k l are_h are_g e = absurd (no_fact_begins P names g (later_hypotheses P gs (61 ∷ l)) k are_g.0 (sym e))
-hypotheses_apart P names (h ∷ hs) [] k l are_h are_g e = absurd (no_fact_begins P names h (later_hypotheses P hs (61 ∷ k)) l are_h.0 e)
-hypotheses_apart P names (h ∷ hs) (g ∷ gs) k l are_h are_g e =
-    let first = fact_apart P names h g (later_hypotheses P hs (61 ∷ k)) (later_hypotheses P gs (61 ∷ l)) are_h.0 are_g.0 e in
-    let later = later_apart P names hs gs (61 ∷ k) (61 ∷ l) are_h.1 are_g.1 first.rest in
-    record { thing = ap (λ f. f ∷ hs) first.thing ∙ ap (λ fs. g ∷ fs) later.thing; rest = later_same 61 61 k l later.rest }
+-- a fact is no constraint, and not what stands behind them
+no_first : (P : Protocol) → HasNames P → (g : Fact Term) (ds : List Diff) (k x : List ℕ) → IsFactOf P g → diffs_text P ds (61 ∷ k) ≡ fact_text P g x → ⊥
+no_first P names g [] k x is e = no_fact_begins P names g x k is (sym e)
+no_first P names g (d ∷ ds) k x is e = no_fact_begins_so P g x _ (sym e)
+
+hypotheses_apart : (P : Protocol) → HasNames P → (hs gs : List (Fact Term)) (ds es : List Diff) (k l : List ℕ) → AllByRecursion (IsFactOf P) hs → AllByRecursion (IsFactOf P) gs → AllByRecursion (IsDiffOf P) ds → AllByRecursion (IsDiffOf P) es
+    → hypotheses_text P hs ds (61 ∷ k) ≡ hypotheses_text P gs es (61 ∷ l) → PremisesSame hs gs ds es k l
+hypotheses_apart P names [] [] ds es k l are_h are_g are_d are_e e = let both = diffs_apart P names ds es k l are_d are_e e in record { hypotheses = refl; diffs = both.thing; rest = both.rest }
+hypotheses_apart P names [] (g ∷ gs) ds es k l are_h are_g are_d are_e e = absurd (no_first P names g ds k (later_hypotheses P gs es (61 ∷ l)) are_g.0 e)
+hypotheses_apart P names (h ∷ hs) [] ds es k l are_h are_g are_d are_e e = absurd (no_first P names h es l (later_hypotheses P hs ds (61 ∷ k)) are_h.0 (sym e))
+hypotheses_apart P names (h ∷ hs) (g ∷ gs) ds es k l are_h are_g are_d are_e e =
+    let first = fact_apart P names h g (later_hypotheses P hs ds (61 ∷ k)) (later_hypotheses P gs es (61 ∷ l)) are_h.0 are_g.0 e in
+    let later = later_apart P names hs gs ds es (61 ∷ k) (61 ∷ l) are_h.1 are_g.1 are_d are_e first.rest in
+    record { hypotheses = ap (λ f. f ∷ hs) first.thing ∙ ap (λ fs. g ∷ fs) later.hypotheses; diffs = later.diffs; rest = later_same 61 61 k l later.rest }
 
 clause_same : (c d : Clause Term) → c.hypotheses ≡ d.hypotheses → c.diffs ≡ d.diffs → c.conclusion ≡ d.conclusion → c ≡ d
 clause_same c d hypotheses diffs conclusions = λ i. record { hypotheses = hypotheses i; diffs = diffs i; conclusion = conclusions i }
@@ -193,9 +266,9 @@ pub clause_apart : (P : Protocol) → HasNames P → (c d : Clause Term) (k l : 
 clause_apart P names c d k l is_c is_d e =
     let x = fact_text P c.conclusion k in
     let y = fact_text P d.conclusion l in
-    let hypotheses = hypotheses_apart P names c.hypotheses d.hypotheses (62 ∷ 32 ∷ x) (62 ∷ 32 ∷ y) is_c.hypotheses is_d.hypotheses e in
-    let conclusions = fact_apart P names c.conclusion d.conclusion k l is_c.conclusion is_d.conclusion (later_same 32 32 x y (later_same 62 62 (32 ∷ x) (32 ∷ y) hypotheses.rest)) in
-    record { thing = clause_same c d hypotheses.thing (is_c.diffs ∙ sym is_d.diffs) conclusions.thing; rest = conclusions.rest }
+    let premises = hypotheses_apart P names c.hypotheses d.hypotheses c.diffs d.diffs (62 ∷ 32 ∷ x) (62 ∷ 32 ∷ y) is_c.hypotheses is_d.hypotheses is_c.diffs is_d.diffs e in
+    let conclusions = fact_apart P names c.conclusion d.conclusion k l is_c.conclusion is_d.conclusion (later_same 32 32 x y (later_same 62 62 (32 ∷ x) (32 ∷ y) premises.rest)) in
+    record { thing = clause_same c d premises.hypotheses premises.diffs conclusions.thing; rest = conclusions.rest }
 
 -- Certificates.
 
@@ -241,10 +314,6 @@ row_lines_apart letter (r ∷ rows) (o ∷ others) k l itself are_r are_o stops_
     let first = numbers_apart r o (row_lines letter rows k) (row_lines letter others l) are_r.0 are_o.0 (later_same letter letter (numbers_text r (10 ∷ row_lines letter rows k)) (numbers_text o (10 ∷ row_lines letter others l)) e) in
     let later = row_lines_apart letter rows others k l itself are_r.1 are_o.1 stops_k stops_l first.rest in
     record { thing = ap (λ b. b ∷ rows) first.thing ∙ ap (λ bs. o ∷ bs) later.thing; rest = later.rest }
-
-same_front : (front k l : List ℕ) → front ++ k ≡ front ++ l → k ≡ l
-same_front [] k l e = e
-same_front (b ∷ front) k l e = same_front front k l (later_same b b (front ++ k) (front ++ l) e)
 
 goal_lines : List (List ℕ) → List ℕ → List ℕ
 goal_lines goals k = row_lines 103 goals (codes "end\n" ++ k)

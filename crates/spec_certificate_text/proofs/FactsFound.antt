@@ -19,39 +19,57 @@ use Rattle.spec_certificate_text.specs.Text.{term_text, phase_text, fact_text}
 use Rattle.spec_certificate_text.proofs.Names.{event_word_is_word, table_word_is_word}
 use Rattle.spec_certificate_text.specs.Names.{CalledEvent, called_in}
 use Rattle.spec_certificate_text.specs.Terms.{Syntax, Symbol, Arity}
-use Rattle.spec_certificate_text.specs.Outcomes.{Outcome, Found, Faulty, next, front, read_fixed, read_number}
-use Rattle.spec_certificate_text.specs.Facts.{term_outcome, one_term, argument, read_terms, Performed, performed, event_named, call_before, read_call, read_event, read_entry, is_later_phase, as_phase, read_phase, read_att, read_mess, read_tab, read_ev, read_mev, bad_arguments, read_bad, read_hypothesis, read_conclusion}
+use Rattle.spec_certificate_text.specs.Outcomes.{Outcome, Found, Faulty, next, front, read_fixed, read_number, things}
+use Rattle.spec_certificate_text.specs.Facts.{term_outcome, one_tree, one_term, item_before, read_terms, Performed, performed, event_named, call_before, read_call, read_event, read_entry, is_later_phase, as_phase, read_phase, read_att, read_mess, read_tab, read_ev, read_mev, bad_arguments, read_bad, read_hypothesis, read_conclusion}
 use Rattle.spec_certificate_text.specs.Readable.{MayStand, IsHypothesisOf, IsConclusionOf}
-use Rattle.spec_certificate_text.proofs.Read.{term_text-read}
+use Rattle.spec_certificate_text.proofs.Read.{tree_text-read}
 use Rattle.spec_certificate_text.proofs.Called.{event_word_called, table_word_called}
 use Rattle.spec_certificate_text.proofs.Parts.{Finds, joined, when_true, when_false, same_byte, other_byte, fixed_found, run_stops, number_found}
 use Rattle.spec_certificate_text.proofs.Things.{things_text, IsOne, Complete, things_found}
 use Rattle.spec_certificate_text.proofs.Long.{onto_long, things_long}
-use Rattle.spec_certificate_text.proofs.FactsThere.{argument_text, row_is, call_text, event_text, entry_text, IsPerformed, IsEntry}
+use Rattle.spec_certificate_text.proofs.FactsThere.{Stands, item_text, row_closed, call_text, event_text, entry_text, IsPerformed, IsEntry}
 
--- a term before a byte with which no word alone could go on
-term_found : (P : Protocol) → HasNames P → (t : Term) → MayStand P t → (at b : ℕ) (k : List ℕ) → goes_on b ≡ false → Finds (one_term P (term_text P t (b ∷ k)) at) t (b ∷ k)
-term_found P names t may at b k stops =
-    let read = term_text-read P names t may.0 may.1 at b k stops in
+-- a term or a side before a byte with which no word alone could go on
+tree_found : (binds : Bool) (P : Protocol) → HasNames P → (t : Term) → Stands binds P t → (at b : ℕ) (k : List ℕ) → goes_on b ≡ false → Finds (one_tree binds P (term_text P t (b ∷ k)) at) t (b ∷ k)
+tree_found binds P names t may at b k stops =
+    let read = tree_text-read binds P names t may.0 may.1 at b k stops in
     record { place = read.0; is = ap term_outcome read.1 }
 
-abbrev behind_term : Term → ℕ → List ℕ → Outcome (Term × Bool)
-behind_term t place rest = if front rest == 44 then Found (t, true) (place + 1) (drop 1 rest) else (if front rest == 41 then Found (t, false) (place + 1) (drop 1 rest) else Faulty place Syntax)
+term_found : (P : Protocol) → HasNames P → (t : Term) → MayStand P t → (at b : ℕ) (k : List ℕ) → goes_on b ≡ false → Finds (one_term P (term_text P t (b ∷ k)) at) t (b ∷ k)
+term_found P names t may at b k stops = tree_found false P names t may at b k stops
 
-argument_found : (P : Protocol) → HasNames P → Complete (argument_text P) (IsOne (MayStand P)) (argument P)
-argument_found P names (t, true) rest at may =
-    joined (one_term P (term_text P t (44 ∷ rest)) at) behind_term t (44 ∷ rest) (t, true) rest (term_found P names t may at 44 rest refl) (λ p. record { place = p + 1; is = refl })
-argument_found P names (t, false) rest at may =
-    joined (one_term P (term_text P t (41 ∷ rest)) at) behind_term t (41 ∷ rest) (t, false) rest (term_found P names t may at 41 rest refl) (λ p. record { place = p + 1; is = refl })
+-- Rows, which a byte closes with which no word alone could go on, and which is no comma.
 
-pub argument_long : (P : Protocol) (x : Term × Bool) (k : List ℕ) → length k + 1 ≤ length (argument_text P x k)
-argument_long P (t, true) k = omega (arith, onto_long (written P t) (44 ∷ k))
-argument_long P (t, false) k = omega (arith, onto_long (written P t) (41 ∷ k))
+pub record Closes (closing : ℕ) : Type 0 where
+  pub ends : goes_on closing ≡ false
+  pub no_comma : (closing == 44) ≡ false
+
+abbrev behind_term : ℕ → Term → ℕ → List ℕ → Outcome (Term × Bool)
+behind_term closing t place rest =
+    if front rest == 44 then Found (t, true) (place + 1) (drop 1 rest) else (if front rest == closing then Found (t, false) (place + 1) (drop 1 rest) else Faulty place Syntax)
+
+item_found : (binds : Bool) (P : Protocol) (closing : ℕ) → Closes closing → HasNames P → Complete (item_text P closing) (IsOne (Stands binds P)) (item_before closing (one_tree binds P))
+item_found binds P closing closes names (t, true) rest at may =
+    joined (one_tree binds P (term_text P t (44 ∷ rest)) at) (behind_term closing) t (44 ∷ rest) (t, true) rest (tree_found binds P names t may at 44 rest refl) (λ p. record { place = p + 1; is = refl })
+item_found binds P closing closes names (t, false) rest at may =
+    joined (one_tree binds P (term_text P t (closing ∷ rest)) at) (behind_term closing) t (closing ∷ rest) (t, false) rest (tree_found binds P names t may at closing rest closes.ends)
+    (λ p. when_false (closing == 44) (Found (t, true) (p + 1) rest) (if closing == closing then Found (t, false) (p + 1) rest else Faulty p Syntax) (t, false) rest closes.no_comma
+    (when_true (closing == closing) (Found (t, false) (p + 1) rest) (Faulty p Syntax) (t, false) rest (same_byte closing) record { place = p + 1; is = refl }))
+
+pub item_long : (P : Protocol) (closing : ℕ) (x : Term × Bool) (k : List ℕ) → length k + 1 ≤ length (item_text P closing x k)
+item_long P closing (t, true) k = omega (arith, onto_long (written P t) (44 ∷ k))
+item_long P closing (t, false) k = omega (arith, onto_long (written P t) (closing ∷ k))
+
+pub row_found : (binds : Bool) (P : Protocol) (closing : ℕ) → Closes closing → HasNames P → (t : Term) (ts : List Term) (rest : List ℕ) (at : ℕ) → AllByRecursion (Stands binds P) (t ∷ ts)
+    → Finds (things (item_before closing (one_tree binds P)) (row (written_row P (trees (t ∷ ts))) (closing ∷ rest)) at) (t ∷ ts) rest
+row_found binds P closing closes names t ts rest at each =
+    let one = item_text P closing in
+    let r = item_before closing (one_tree binds P) in
+    subst (λ bytes. Finds (things r bytes at) (t ∷ ts) rest) (row_closed P closing t ts rest)
+    (things_found one (Stands binds P) r (item_found binds P closing closes names) (length (things_text one t ts rest)) [] t ts rest at (things_long one (item_long P closing) t ts rest) each)
 
 pub terms_found : (P : Protocol) → HasNames P → (t : Term) (ts : List Term) (rest : List ℕ) (at : ℕ) → AllByRecursion (MayStand P) (t ∷ ts) → Finds (read_terms P (row (written_row P (trees (t ∷ ts))) (41 ∷ rest)) at) (t ∷ ts) rest
-terms_found P names t ts rest at each =
-    subst (λ bytes. Finds (read_terms P bytes at) (t ∷ ts) rest) (row_is P t ts rest)
-    (things_found (argument_text P) (MayStand P) (argument P) (argument_found P names) (length (things_text (argument_text P) t ts rest)) [] t ts rest at (things_long (argument_text P) (argument_long P) t ts rest) each)
+terms_found P names t ts rest at each = row_found false P 41 record { ends = refl; no_comma = refl } names t ts rest at each
 
 -- Events and entries.
 

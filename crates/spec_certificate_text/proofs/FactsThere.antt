@@ -1,26 +1,27 @@
 -- Facts that were read are what the bytes begin with.
-use Rattle.std.proofs.Common.{◌≡◌, ℕ, zero, suc, ◌+◌, ◌<◌, ◌≤◌, ◌==◌, nat_lt, nat_le, if◌then◌else◌, Bool, true, false, List, [], ◌∷◌, ◌++◌, length, take, drop, Option, Some, None, refl, sym, ◌∙◌, ap, subst, arith, codes}
+use Rattle.std.proofs.Common.{◌≡◌, ◌≢◌, ℕ, zero, suc, ◌+◌, ◌<◌, ◌≤◌, ◌==◌, nat_lt, nat_le, if◌then◌else◌, Bool, true, false, List, [], ◌∷◌, ◌++◌, length, take, drop, Option, Some, None, refl, sym, ◌∙◌, ap, subst, arith, codes}
 use Rattle.std.proofs.lemmas.Bool.Decides.{nat_tests}
 use Rattle.std.proofs.lemmas.List.{take-append-drop}
 use Rattle.std.specs.List.{AllByRecursion, prefix_len}
-use Rattle.spec_trees.specs.Tree.{trees}
+use Rattle.spec_trees.specs.Tree.{trees, depth}
+use Rattle.spec_calculus.specs.Bounds.{most_term_levels}
 use Rattle.spec_calculus.specs.Syntax.{Declared, Protocol}
 use Rattle.spec_calculus.specs.Points.{greatest_phase}
 use Rattle.spec_protocol_tokens.specs.Bytes.{begins_word, is_in_word}
 use Rattle.spec_terms.specs.Term.{Term}
 use Rattle.spec_clauses.specs.Fact.{Fact, Att, Mess, Tab, Ev, Mev, Bad}
 use Rattle.spec_certificate_text.specs.Loose.{onto, row}
-use Rattle.spec_certificate_text.specs.OfProtocol.{IsPhase, IsDeclaredOver}
+use Rattle.spec_certificate_text.specs.OfProtocol.{IsPhase, IsDeclaredOver, IsTermBelow, most_variables}
 use Rattle.spec_certificate_text.specs.Written.{written_row, written_call}
 use Rattle.spec_certificate_text.specs.Text.{term_text, phase_text, fact_text}
 use Rattle.spec_certificate_text.specs.Names.{CalledEvent, called_in}
 use Rattle.spec_certificate_text.specs.Terms.{Syntax, Symbol}
-use Rattle.spec_certificate_text.specs.Runs.{Read, Done, Refused, read_term}
-use Rattle.spec_certificate_text.specs.Outcomes.{Outcome, Found, Faulty, next, front, read_fixed, read_number}
-use Rattle.spec_certificate_text.specs.Facts.{term_outcome, one_term, argument, read_terms, Performed, performed, event_named, call_before, read_call, read_event, read_entry, is_later_phase, as_phase, read_phase, read_att, read_mess, read_tab, read_ev, read_mev, bad_arguments, read_bad, read_mev_or_mess, read_hypothesis, read_conclusion}
+use Rattle.spec_certificate_text.specs.Runs.{Read, Done, Refused, read_tree}
+use Rattle.spec_certificate_text.specs.Outcomes.{Outcome, Found, Faulty, next, front, read_fixed, read_number, things}
+use Rattle.spec_certificate_text.specs.Facts.{term_outcome, one_tree, one_term, item_before, read_terms, Performed, performed, event_named, call_before, read_call, read_event, read_entry, is_later_phase, as_phase, read_phase, read_att, read_mess, read_tab, read_ev, read_mev, bad_arguments, read_bad, read_mev_or_mess, read_hypothesis, read_conclusion}
 use Rattle.spec_certificate_text.specs.Readable.{MayStand, IsHypothesisOf, IsConclusionOf}
-use Rattle.spec_certificate_text.proofs.ReadRuns.{read_term-sound}
-use Rattle.spec_certificate_text.proofs.Kept.{read_term-kept}
+use Rattle.spec_certificate_text.proofs.ReadRuns.{read_tree-sound}
+use Rattle.spec_certificate_text.proofs.Kept.{read_tree-kept}
 use Rattle.spec_certificate_text.proofs.Runs.{both_left, both_right}
 use Rattle.spec_certificate_text.proofs.Called.{called_in_is}
 use Rattle.spec_certificate_text.proofs.Parts.{IsThere, Sound, Parts, parts, chosen, equal_byte, front_is, fixed_there, ended_found, number_text, number_there}
@@ -30,11 +31,18 @@ pub as_done : (o : Read) (t : Term) (p : ℕ) (r : List ℕ) → term_outcome o 
 as_done (Done u q s) t p r e = cc
 as_done (Refused q c) t p r e = absurd (cc)
 
--- a term that was read before a byte
+-- a term of a fact, or a side of a constraint, that may stand
+abbrev pub Stands : Bool → Protocol → Term → Type 0
+Stands binds P t = IsTermBelow (most_variables binds) P t × (depth t ≤ most_term_levels)
+
+-- such a term that was read before a byte
+tree_there : (binds : Bool) (P : Protocol) (bytes : List ℕ) (at : ℕ) (t : Term) (p b : ℕ) (k r : List ℕ) → one_tree binds P bytes at ≡ Found t p k → k ≡ b ∷ r → IsThere (term_text P) (Stands binds P) bytes t (b ∷ r)
+tree_there binds P bytes at t p b k r e is =
+    let read : read_tree binds P bytes at ≡ Done t p (b ∷ r) = as_done (read_tree binds P bytes at) t p (b ∷ r) (e ∙ ap (Found t p) is) in
+    record { text = read_tree-sound binds P bytes at t p (b ∷ r) read; is = read_tree-kept binds P bytes at t p (b ∷ r) read }
+
 term_there : (P : Protocol) (bytes : List ℕ) (at : ℕ) (t : Term) (p b : ℕ) (k r : List ℕ) → one_term P bytes at ≡ Found t p k → k ≡ b ∷ r → IsThere (term_text P) (MayStand P) bytes t (b ∷ r)
-term_there P bytes at t p b k r e is =
-    let read : read_term P bytes at ≡ Done t p (b ∷ r) = as_done (read_term P bytes at) t p (b ∷ r) (e ∙ ap (Found t p) is) in
-    record { text = read_term-sound P bytes at t p (b ∷ r) read; is = read_term-kept P bytes at t p (b ∷ r) read }
+term_there P bytes at t p b k r e is = tree_there false P bytes at t p b k r e is
 
 -- a term was read, and then these bytes
 record TermThen {B : Type 0} (P : Protocol) (ws : List ℕ) (f : Term → ℕ → List ℕ → Outcome B) (bytes : List ℕ) (y : B) (p : ℕ) (r : List ℕ) : Type 0 where
@@ -54,52 +62,62 @@ term_then P w ws f bytes at y p r e =
     let closes : cut.rest ≡ w ∷ (ws ++ end.rest) = fixed_there (w ∷ ws) cut.rest cut.place end.value end.place end.rest end.first in
     record { term = cut.value; place = end.place; rest = end.rest; there = term_there P bytes at cut.value cut.place w cut.rest (ws ++ end.rest) cut.first closes; later = end.later }
 
--- Rows of terms.
+-- Rows of terms, and of sides.
 
-abbrev pub argument_text : Protocol → Term × Bool → List ℕ → List ℕ
-argument_text P (t, true) rest = term_text P t (44 ∷ rest)
-argument_text P (t, false) rest = term_text P t (41 ∷ rest)
+-- a term, and a comma or the byte that closes the row
+abbrev pub item_text : Protocol → ℕ → Term × Bool → List ℕ → List ℕ
+item_text P closing (t, true) rest = term_text P t (44 ∷ rest)
+item_text P closing (t, false) rest = term_text P t (closing ∷ rest)
 
-pub argument_there : (P : Protocol) → Sound (argument_text P) (IsOne (MayStand P)) (argument P)
-argument_there P bytes at x p r e = by x cut.value cut.place cut.rest cut.first cut.later
+abbrev told_behind : ℕ → Term → ℕ → List ℕ → Outcome (Term × Bool)
+told_behind closing t place rest =
+    if front rest == 44 then Found (t, true) (place + 1) (drop 1 rest) else (if front rest == closing then Found (t, false) (place + 1) (drop 1 rest) else Faulty place Syntax)
+
+pub item_there : (binds : Bool) (P : Protocol) (closing : ℕ) → 0 ≢ closing → Sound (item_text P closing) (IsOne (Stands binds P)) (item_before closing (one_tree binds P))
+item_there binds P closing some bytes at x p r e = by x cut.value cut.place cut.rest cut.first cut.later
   where
-    cut : Parts (one_term P bytes at) (λ t place rest. if front rest == 44 then Found (t, true) (place + 1) (drop 1 rest) else (if front rest == 41 then Found (t, false) (place + 1) (drop 1 rest) else Faulty place Syntax)) x p r
-    cut = parts (one_term P bytes at) _ x p r e
+    cut : Parts (one_tree binds P bytes at) (told_behind closing) x p r
+    cut = parts (one_tree binds P bytes at) _ x p r e
 
-    by : (y : Term × Bool) (t : Term) (q : ℕ) (k : List ℕ) → one_term P bytes at ≡ Found t q k
-        → (if front k == 44 then Found (t, true) (q + 1) (drop 1 k) else (if front k == 41 then Found (t, false) (q + 1) (drop 1 k) else Faulty q Syntax)) ≡ Found y p r
-        → IsThere (argument_text P) (IsOne (MayStand P)) bytes y r
+    by : (y : Term × Bool) (t : Term) (q : ℕ) (k : List ℕ) → one_tree binds P bytes at ≡ Found t q k → told_behind closing t q k ≡ Found y p r → IsThere (item_text P closing) (IsOne (Stands binds P)) bytes y r
     by y t q k read found =
-        chosen (front k == 44) (Found (t, true) (q + 1) (drop 1 k)) (if front k == 41 then Found (t, false) (q + 1) (drop 1 k) else Faulty q Syntax) y p r (IsThere (argument_text P) (IsOne (MayStand P)) bytes y r) found
+        chosen (front k == 44) (Found (t, true) (q + 1) (drop 1 k)) (if front k == closing then Found (t, false) (q + 1) (drop 1 k) else Faulty q Syntax) y p r (IsThere (item_text P closing) (IsOne (Stands binds P)) bytes y r) found
         (λ comma more.
-        let here = term_there P bytes at t q 44 k (drop 1 k) read (front_is k 44 (equal_byte (front k) 44 comma) (λ never. absurd (cc))) in
+        let here = tree_there binds P bytes at t q 44 k (drop 1 k) read (front_is k 44 (equal_byte (front k) 44 comma) (λ never. absurd (cc))) in
         let same : (t, true) ≡ y = cc in
         let rests : drop 1 k ≡ r = cc in
-        subst (λ z. IsThere (argument_text P) (IsOne (MayStand P)) bytes z r) same record { text = here.text ∙ ap (λ s. term_text P t (44 ∷ s)) rests; is = here.is })
-        (λ no_comma other. chosen (front k == 41) (Found (t, false) (q + 1) (drop 1 k)) (Faulty q Syntax) y p r (IsThere (argument_text P) (IsOne (MayStand P)) bytes y r) other
+        subst (λ z. IsThere (item_text P closing) (IsOne (Stands binds P)) bytes z r) same record { text = here.text ∙ ap (λ s. term_text P t (44 ∷ s)) rests; is = here.is })
+        (λ no_comma other. chosen (front k == closing) (Found (t, false) (q + 1) (drop 1 k)) (Faulty q Syntax) y p r (IsThere (item_text P closing) (IsOne (Stands binds P)) bytes y r) other
         (λ closes end.
-        let here = term_there P bytes at t q 41 k (drop 1 k) read (front_is k 41 (equal_byte (front k) 41 closes) (λ never. absurd (cc))) in
+        let here = tree_there binds P bytes at t q closing k (drop 1 k) read (front_is k closing (equal_byte (front k) closing closes) some) in
         let same : (t, false) ≡ y = cc in
         let rests : drop 1 k ≡ r = cc in
-        subst (λ z. IsThere (argument_text P) (IsOne (MayStand P)) bytes z r) same record { text = here.text ∙ ap (λ s. term_text P t (41 ∷ s)) rests; is = here.is })
+        subst (λ z. IsThere (item_text P closing) (IsOne (Stands binds P)) bytes z r) same record { text = here.text ∙ ap (λ s. term_text P t (closing ∷ s)) rests; is = here.is })
         (λ stays never. absurd (cc)))
 
-pub row_is : (P : Protocol) (t : Term) (ts : List Term) (rest : List ℕ) → things_text (argument_text P) t ts rest ≡ row (written_row P (trees (t ∷ ts))) (41 ∷ rest)
-row_is P t [] rest = refl
-row_is P t (u ∷ us) rest = ap (λ k. term_text P t (44 ∷ k)) (row_is P u us rest)
+pub row_closed : (P : Protocol) (closing : ℕ) (t : Term) (ts : List Term) (rest : List ℕ) → things_text (item_text P closing) t ts rest ≡ row (written_row P (trees (t ∷ ts))) (closing ∷ rest)
+row_closed P closing t [] rest = refl
+row_closed P closing t (u ∷ us) rest = ap (λ k. term_text P t (44 ∷ k)) (row_closed P closing u us rest)
 
 -- terms in a row, one at least
-pub record TermsThere (P : Protocol) (bytes : List ℕ) (ts : List Term) (rest : List ℕ) : Type 0 where
+pub record RowThere (binds : Bool) (P : Protocol) (closing : ℕ) (bytes : List ℕ) (ts : List Term) (rest : List ℕ) : Type 0 where
   pub first : Term
   pub others : List Term
   pub is : ts ≡ first ∷ others
-  pub text : bytes ≡ row (written_row P (trees (first ∷ others))) (41 ∷ rest)
-  pub each : AllByRecursion (MayStand P) (first ∷ others)
+  pub text : bytes ≡ row (written_row P (trees (first ∷ others))) (closing ∷ rest)
+  pub each : AllByRecursion (Stands binds P) (first ∷ others)
+
+pub row_there : (binds : Bool) (P : Protocol) (closing : ℕ) → 0 ≢ closing → (bytes : List ℕ) (at : ℕ) (ts : List Term) (p : ℕ) (r : List ℕ) → things (item_before closing (one_tree binds P)) bytes at ≡ Found ts p r → RowThere binds P closing bytes ts r
+row_there binds P closing some bytes at ts p r e =
+    let there = things_there (item_text P closing) (Stands binds P) (item_before closing (one_tree binds P)) (item_there binds P closing some) (length bytes) [] bytes at ts p r e in
+    record { first = there.first; others = there.others; is = there.is; text = there.text ∙ row_closed P closing there.first there.others r; each = there.each }
+
+-- terms of a fact
+abbrev pub TermsThere : Protocol → List ℕ → List Term → List ℕ → Type 0
+TermsThere P bytes ts rest = RowThere false P 41 bytes ts rest
 
 pub terms_there : (P : Protocol) (bytes : List ℕ) (at : ℕ) (ts : List Term) (p : ℕ) (r : List ℕ) → read_terms P bytes at ≡ Found ts p r → TermsThere P bytes ts r
-terms_there P bytes at ts p r e =
-    let there = things_there (argument_text P) (MayStand P) (argument P) (argument_there P) (length bytes) [] bytes at ts p r e in
-    record { first = there.first; others = there.others; is = there.is; text = there.text ∙ row_is P there.first there.others r; each = there.each }
+terms_there P bytes at ts p r e = row_there false P 41 (λ never. absurd (cc)) bytes at ts p r e
 
 -- Events and entries.
 

@@ -1,14 +1,16 @@
 -- Texts with what follows them: the rest may stand behind.
 use Rattle.std.proofs.Common.{◌≡◌, ℕ, zero, suc, List, [], ◌∷◌, ◌++◌, ap, ◌∙◌, refl, append_assoc, codes}
 use Rattle.std.specs.Fmt.{decimal}
-use Rattle.spec_trees.specs.Tree.{Leaf, Node, none, more}
+use Rattle.spec_trees.specs.Tree.{Leaf, Node, none, more, trees}
 use Rattle.spec_calculus.specs.Syntax.{Protocol}
 use Rattle.spec_terms.specs.Term.{Term}
+use Rattle.spec_clauses.specs.Diff.{Diff}
 use Rattle.spec_clauses.specs.Fact.{Fact, Clause}
 use Rattle.spec_certificates.specs.Certificate.{Certificate}
 use Rattle.spec_certificate_text.specs.Loose.{Head, Applied, Tupled, Made, Attackers, Loose, LooseRow, opening, closing, onto, row, behind}
-use Rattle.spec_certificate_text.specs.Written.{LooseFact, written_fact}
-use Rattle.spec_certificate_text.specs.Text.{phase_text, fact_onto, fact_text, later_hypotheses, hypotheses_text, clause_text, clause_lines, numbers_text, row_lines, certificate_text}
+use Rattle.spec_certificate_text.specs.Written.{LooseFact, written_fact, written_row}
+use Rattle.spec_certificate_text.specs.Sides.{spelled_diff}
+use Rattle.spec_certificate_text.specs.Text.{phase_text, fact_onto, fact_text, diff_text, later_diffs, diffs_text, later_hypotheses, hypotheses_text, clause_text, clause_lines, numbers_text, row_lines, certificate_text}
 
 pub opening_followed : (head : Head) (k rest : List ℕ) → opening head k ++ rest ≡ opening head (k ++ rest)
 opening_followed (Applied word) k rest = append_assoc word (40 ∷ k) rest
@@ -41,18 +43,33 @@ loose_followed f k rest =
 fact_followed : (P : Protocol) (f : Fact Term) (k rest : List ℕ) → fact_text P f k ++ rest ≡ fact_text P f (k ++ rest)
 fact_followed P f k rest = loose_followed (written_fact P f) k rest
 
-later_followed : (P : Protocol) (hs : List (Fact Term)) (k rest : List ℕ) → later_hypotheses P hs k ++ rest ≡ later_hypotheses P hs (k ++ rest)
-later_followed P [] k rest = refl
-later_followed P (h ∷ hs) k rest = ap (λ l. 44 ∷ 32 ∷ l) (fact_followed P h (later_hypotheses P hs k) rest ∙ ap (fact_text P h) (later_followed P hs k rest))
+diff_followed : (P : Protocol) (d : Diff) (k rest : List ℕ) → diff_text P d k ++ rest ≡ diff_text P d (k ++ rest)
+diff_followed P d k rest =
+    let left = written_row P (trees (spelled_diff d).left) in
+    let right = written_row P (trees (spelled_diff d).right) in
+    append_assoc (codes "diff(") (row left (59 ∷ row right (41 ∷ k))) rest
+    ∙ ap (λ l. codes "diff(" ++ l) (row_followed left (59 ∷ row right (41 ∷ k)) rest ∙ ap (λ l. row left (59 ∷ l)) (row_followed right (41 ∷ k) rest))
 
-hypotheses_followed : (P : Protocol) (hs : List (Fact Term)) (k rest : List ℕ) → hypotheses_text P hs k ++ rest ≡ hypotheses_text P hs (k ++ rest)
-hypotheses_followed P [] k rest = refl
-hypotheses_followed P (h ∷ hs) k rest = fact_followed P h (later_hypotheses P hs k) rest ∙ ap (fact_text P h) (later_followed P hs k rest)
+later_diffs_followed : (P : Protocol) (ds : List Diff) (k rest : List ℕ) → later_diffs P ds k ++ rest ≡ later_diffs P ds (k ++ rest)
+later_diffs_followed P [] k rest = refl
+later_diffs_followed P (d ∷ ds) k rest = ap (λ l. 44 ∷ 32 ∷ l) (diff_followed P d (later_diffs P ds k) rest ∙ ap (diff_text P d) (later_diffs_followed P ds k rest))
+
+diffs_followed : (P : Protocol) (ds : List Diff) (k rest : List ℕ) → diffs_text P ds k ++ rest ≡ diffs_text P ds (k ++ rest)
+diffs_followed P [] k rest = refl
+diffs_followed P (d ∷ ds) k rest = diff_followed P d (later_diffs P ds k) rest ∙ ap (diff_text P d) (later_diffs_followed P ds k rest)
+
+later_followed : (P : Protocol) (hs : List (Fact Term)) (ds : List Diff) (k rest : List ℕ) → later_hypotheses P hs ds k ++ rest ≡ later_hypotheses P hs ds (k ++ rest)
+later_followed P [] ds k rest = later_diffs_followed P ds k rest
+later_followed P (h ∷ hs) ds k rest = ap (λ l. 44 ∷ 32 ∷ l) (fact_followed P h (later_hypotheses P hs ds k) rest ∙ ap (fact_text P h) (later_followed P hs ds k rest))
+
+hypotheses_followed : (P : Protocol) (hs : List (Fact Term)) (ds : List Diff) (k rest : List ℕ) → hypotheses_text P hs ds k ++ rest ≡ hypotheses_text P hs ds (k ++ rest)
+hypotheses_followed P [] ds k rest = diffs_followed P ds k rest
+hypotheses_followed P (h ∷ hs) ds k rest = fact_followed P h (later_hypotheses P hs ds k) rest ∙ ap (fact_text P h) (later_followed P hs ds k rest)
 
 clause_followed : (P : Protocol) (c : Clause Term) (k rest : List ℕ) → clause_text P c k ++ rest ≡ clause_text P c (k ++ rest)
 clause_followed P c k rest =
-    hypotheses_followed P c.hypotheses (61 ∷ 62 ∷ 32 ∷ fact_text P c.conclusion k) rest
-    ∙ ap (λ l. hypotheses_text P c.hypotheses (61 ∷ 62 ∷ 32 ∷ l)) (fact_followed P c.conclusion k rest)
+    hypotheses_followed P c.hypotheses c.diffs (61 ∷ 62 ∷ 32 ∷ fact_text P c.conclusion k) rest
+    ∙ ap (λ l. hypotheses_text P c.hypotheses c.diffs (61 ∷ 62 ∷ 32 ∷ l)) (fact_followed P c.conclusion k rest)
 
 clauses_followed : (P : Protocol) (cs : List (Clause Term)) (k rest : List ℕ) → clause_lines P cs k ++ rest ≡ clause_lines P cs (k ++ rest)
 clauses_followed P [] k rest = refl

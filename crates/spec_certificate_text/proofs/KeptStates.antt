@@ -1,5 +1,5 @@
 -- Facts and clauses are read as they are on a walk that keeps its state.
-use Rattle.std.proofs.Common.{◌≡◌, ℕ, zero, suc, ◌+◌, ◌≤◌, ◌==◌, if◌then◌else◌, Bool, true, false, List, [], ◌∷◌, ◌++◌, length, take, drop, codes, Option, Some, None, refl, sym, subst, arith}
+use Rattle.std.proofs.Common.{◌≡◌, ◌≢◌, ℕ, zero, suc, ◌+◌, ◌≤◌, ◌==◌, if◌then◌else◌, Bool, true, false, List, [], ◌∷◌, ◌++◌, length, take, drop, codes, Option, Some, None, refl, sym, subst, arith}
 use Rattle.std.specs.List.{prefix_len}
 use Rattle.spec_calculus.specs.Syntax.{Declared, Protocol}
 use Rattle.spec_protocol_tokens.specs.Bytes.{begins_word, is_in_word}
@@ -9,19 +9,22 @@ use Rattle.spec_certificate_text.specs.Names.{CalledEvent, called_in}
 use Rattle.spec_certificate_text.specs.Terms.{Syntax, Symbol}
 use Rattle.spec_certificate_text.specs.Outcomes.{Outcome, Found, Faulty, next, front, ended, read_fixed, Reader, things_from, things}
 use Rattle.spec_certificate_text.specs.Facts as facts
-use Rattle.spec_certificate_text.specs.Facts.{Performed, performed, one_term, read_phase}
+use Rattle.spec_certificate_text.specs.Facts.{Performed, performed, one_tree, one_term, read_phase}
 use Rattle.spec_certificate_text.specs.Clauses as clauses
+use Rattle.spec_certificate_text.specs.Clauses.{Premises}
+use Rattle.spec_certificate_text.specs.Sides.{SidesOf, SpelledClause, meant_clause}
 use Rattle.spec_certificate_text.specs.ReadWords.{word_of}
 use Rattle.spec_certificate_text.specs.Rounds.{rounds, collects}
 use Rattle.spec_certificate_text.specs.Walks as walks
-use Rattle.spec_certificate_text.specs.Walks.{Walk, spelled_term, no_counts, with_state}
+use Rattle.spec_certificate_text.specs.Walks.{Walk, spelled_tree, spelled_term, spelled_side, no_counts, with_state}
 use Rattle.spec_certificate_text.proofs.Rounds.{behind_round, one_more, none_left}
 use Rattle.spec_certificate_text.proofs.Alike.{Alike, found, faulty, next_alike, same_alike, if_alike, within_alike, both}
 use Rattle.spec_certificate_text.proofs.Parts.{fixed_byte}
 use Rattle.spec_certificate_text.proofs.Things as row
 use Rattle.spec_certificate_text.proofs.Things.{behind_one, things_enough}
-use Rattle.spec_certificate_text.proofs.FactsThere.{argument_there}
-use Rattle.spec_certificate_text.proofs.FactsFound.{argument_long}
+use Rattle.spec_certificate_text.proofs.FactsThere.{item_there}
+use Rattle.spec_certificate_text.proofs.FactsFound.{item_long}
+use Rattle.spec_certificate_text.proofs.SidesRead.{one_diff_there, one_diff_long}
 use Rattle.spec_certificate_text.proofs.ClausesRead.{one_hypothesis_there, hypothesis_long}
 
 -- something that was read, with the state
@@ -85,8 +88,11 @@ module _ {S : Type 0} (s : S) where
       (row_alike one other alike (suc (length bytes)) [] bytes at)
 
   module _ (P : Protocol) where
+    tree_alike : (binds : Bool) → Go (one_tree binds P) (spelled_tree binds P)
+    tree_alike binds bytes at = itself_alike (one_tree binds P bytes at)
+
     term_alike : Go (one_term P) (spelled_term P)
-    term_alike bytes at = itself_alike (one_term P bytes at)
+    term_alike bytes at = tree_alike false bytes at
 
     -- what stands behind a term of a row: one byte, or none of the two
     told_by : (t : Term) (place : ℕ) (rest : List ℕ) (comma close : Bool) → Alike (As {A = Term × Bool})
@@ -97,24 +103,32 @@ module _ {S : Type 0} (s : S) where
     told_by t place rest false true = found (t, false) ((t, false), s) (place + 1) (drop 1 rest) (still (t, false))
     told_by t place rest false false = faulty place Syntax
 
-    tell_alike : (t : Term) (place : ℕ) (rest : List ℕ) → Alike (As {A = Term × Bool})
-        (if front rest == 44 then Found (t, true) (place + 1) (drop 1 rest) else (if front rest == 41 then Found (t, false) (place + 1) (drop 1 rest) else Faulty place Syntax))
-        (if front rest == 44 then next (read_fixed (codes ",") rest place) (λ _ p r. Found ((t, true), s) p r) else next (read_fixed (codes ")") rest place) (λ _ p r. Found ((t, false), s) p r))
-    tell_alike t place rest =
-        let first : Outcome (Term × Bool) = if front rest == 44 then Found (t, true) (place + 1) (drop 1 rest) else (if front rest == 41 then Found (t, false) (place + 1) (drop 1 rest) else Faulty place Syntax) in
-        subst (λ (o : Outcome (Unit {0})). Alike (As {A = Term × Bool}) first (if front rest == 44 then next o (λ _ p r. Found ((t, true), s) p r) else next (read_fixed (codes ")") rest place) (λ _ p r. Found ((t, false), s) p r)))
+    tell_alike : (closing : ℕ) → (0 == closing) ≡ false → (t : Term) (place : ℕ) (rest : List ℕ) → Alike (As {A = Term × Bool})
+        (if front rest == 44 then Found (t, true) (place + 1) (drop 1 rest) else (if front rest == closing then Found (t, false) (place + 1) (drop 1 rest) else Faulty place Syntax))
+        (if front rest == 44 then next (read_fixed (codes ",") rest place) (λ _ p r. Found ((t, true), s) p r) else next (read_fixed (closing ∷ []) rest place) (λ _ p r. Found ((t, false), s) p r))
+    tell_alike closing some t place rest =
+        let first : Outcome (Term × Bool) = if front rest == 44 then Found (t, true) (place + 1) (drop 1 rest) else (if front rest == closing then Found (t, false) (place + 1) (drop 1 rest) else Faulty place Syntax) in
+        subst (λ (o : Outcome (Unit {0})). Alike (As {A = Term × Bool}) first (if front rest == 44 then next o (λ _ p r. Found ((t, true), s) p r) else next (read_fixed (closing ∷ []) rest place) (λ _ p r. Found ((t, false), s) p r)))
         (sym (fixed_byte 44 rest place refl))
         (subst (λ (o : Outcome (Unit {0})). Alike (As {A = Term × Bool}) first (if front rest == 44 then next (if front rest == 44 then Found (tt {0}) (place + 1) (drop 1 rest) else Faulty place Syntax) (λ _ p r. Found ((t, true), s) p r) else next o (λ _ p r. Found ((t, false), s) p r)))
-        (sym (fixed_byte 41 rest place refl)) (told_by t place rest (front rest == 44) (front rest == 41)))
+        (sym (fixed_byte closing rest place some)) (told_by t place rest (front rest == 44) (front rest == closing)))
 
-    argument_alike : Go (facts.argument P) (walks.argument (spelled_term P))
-    argument_alike bytes at = then_alike {A = Term} {B = Term × Bool} (one_term P bytes at) (spelled_term P s bytes at) _ _ (term_alike bytes at) (λ t place rest. tell_alike t place rest)
+    item_alike : (binds : Bool) (closing : ℕ) → (0 == closing) ≡ false → Go (facts.item_before closing (one_tree binds P)) (walks.item_before (spelled_tree binds P) closing)
+    item_alike binds closing some bytes at =
+        then_alike {A = Term} {B = Term × Bool} (one_tree binds P bytes at) (spelled_tree binds P s bytes at) _ _ (tree_alike binds bytes at) (λ t place rest. tell_alike closing some t place rest)
 
-    argument_takes : (bytes : List ℕ) (at : ℕ) (x : Term × Bool) (place : ℕ) (rest : List ℕ) → facts.argument P bytes at ≡ Found x place rest → length rest + 1 ≤ length bytes
-    argument_takes bytes at x place rest e = let there = argument_there P bytes at x place rest e in subst (λ (bs : List ℕ). length rest + 1 ≤ length bs) (sym there.text) (argument_long P x rest)
+    item_takes : (binds : Bool) (closing : ℕ) → 0 ≢ closing → (bytes : List ℕ) (at : ℕ) (x : Term × Bool) (place : ℕ) (rest : List ℕ) → facts.item_before closing (one_tree binds P) bytes at ≡ Found x place rest → length rest + 1 ≤ length bytes
+    item_takes binds closing some bytes at x place rest e = let there = item_there binds P closing some bytes at x place rest e in subst (λ (bs : List ℕ). length rest + 1 ≤ length bs) (sym there.text) (item_long P closing x rest)
+
+    row_of_alike : (binds : Bool) (closing : ℕ) → 0 ≢ closing → (0 == closing) ≡ false → Go (things (facts.item_before closing (one_tree binds P))) (walks.read_row (spelled_tree binds P) closing)
+    row_of_alike binds closing some other bytes at =
+        things_alike (facts.item_before closing (one_tree binds P)) (walks.item_before (spelled_tree binds P) closing) (item_alike binds closing other) (λ place. refl) (item_takes binds closing some) bytes at
 
     terms_alike : Go (facts.read_terms P) (walks.read_terms (spelled_term P))
-    terms_alike bytes at = things_alike (facts.argument P) (walks.argument (spelled_term P)) argument_alike (λ place. refl) argument_takes bytes at
+    terms_alike bytes at = row_of_alike false 41 (λ never. absurd (cc)) refl bytes at
+
+    sides_alike : (closing : ℕ) → 0 ≢ closing → (0 == closing) ≡ false → Go (facts.read_sides P closing) (walks.read_row (spelled_side P) closing)
+    sides_alike closing some other bytes at = row_of_alike true closing some other bytes at
 
     -- Events.
 
@@ -213,14 +227,45 @@ module _ {S : Type 0} (s : S) where
         (if_alike (As {A = Fact Term}) (front bytes == 98) _ _ _ _ (bad_alike bytes at)
         (if_alike (As {A = Fact Term}) (front bytes == 116) _ _ _ _ (tab_alike bytes at) (att_alike bytes at))))
 
+    -- Constraints.
+
+    diff_alike : Go (facts.read_diff P) (walks.read_diff (spelled_side P) no_counts)
+    diff_alike bytes at = same_alike (As {A = SidesOf Term}) (read_fixed (codes "diff(") bytes at) _ _ (λ _ p r.
+        then_alike {A = List Term} {B = SidesOf Term} (facts.read_sides P 59 r p) (walks.read_row (spelled_side P) 59 s r p) _ _ (sides_alike 59 (λ never. absurd (cc)) refl r p) (λ left p r.
+        then_alike {A = List Term} {B = SidesOf Term} (facts.read_sides P 41 r p) (walks.read_row (spelled_side P) 41 s r p) _ _ (sides_alike 41 (λ never. absurd (cc)) refl r p) (λ right p r.
+        itself_alike (facts.paired at left right p r))))
+
+    one_diff_alike : Go (clauses.one_diff P) (walks.one_diff (spelled_side P) no_counts)
+    one_diff_alike bytes at =
+        then_alike {A = SidesOf Term} {B = SidesOf Term × Bool} (facts.read_diff P bytes at) (walks.read_diff (spelled_side P) no_counts s bytes at) _ _ (diff_alike bytes at) (λ d place rest.
+        if_alike (As {A = SidesOf Term × Bool}) (front rest == 44) _ _ _ _
+        (same_alike (As {A = SidesOf Term × Bool}) (read_fixed (codes ", ") rest place) _ _ (λ _ p r. found (d, true) ((d, true), s) p r (still (d, true))))
+        (found (d, false) ((d, false), s) place rest (still (d, false))))
+
+    diff_takes : (bytes : List ℕ) (at : ℕ) (x : SidesOf Term × Bool) (place : ℕ) (rest : List ℕ) → clauses.one_diff P bytes at ≡ Found x place rest → length rest + 1 ≤ length bytes
+    diff_takes bytes at x place rest e =
+        let there = one_diff_there P bytes at x place rest e in subst (λ (bs : List ℕ). length rest + 1 ≤ length bs) (sym there.text) (one_diff_long P x rest)
+
+    no_diff : (at : ℕ) → clauses.one_diff P [] at ≡ Faulty at Syntax
+    unfolding read_fixed
+    no_diff at = refl
+
+    some_diffs_alike : Go (things (clauses.one_diff P)) (walks.some_diffs (spelled_side P) no_counts)
+    some_diffs_alike bytes at = things_alike (clauses.one_diff P) (walks.one_diff (spelled_side P) no_counts) one_diff_alike no_diff diff_takes bytes at
+
+    diffs_alike : Go (clauses.read_diffs P) (walks.read_diffs (spelled_side P) no_counts)
+    diffs_alike bytes at = if_alike (As {A = List (SidesOf Term)}) (front bytes == 44) _ _ _ _
+        (same_alike (As {A = List (SidesOf Term)}) (read_fixed (codes ", ") bytes at) _ _ (λ _ p r. some_diffs_alike r p))
+        (found [] ([], s) at bytes (still []))
+
     -- Clauses.
 
     one_alike : Go (clauses.one_hypothesis P) (walks.one_hypothesis (spelled_term P) no_counts P)
     one_alike bytes at =
         then_alike {A = Fact Term} {B = Fact Term × Bool} (facts.read_hypothesis P bytes at) (walks.read_hypothesis (spelled_term P) no_counts P s bytes at) _ _ (hypothesis_alike bytes at) (λ h place rest.
-        if_alike (As {A = Fact Term × Bool}) (front rest == 44) _ _ _ _
+        if_alike (As {A = Fact Term × Bool}) (clauses.has_next_hypothesis rest) _ _ _ _
         (same_alike (As {A = Fact Term × Bool}) (read_fixed (codes ", ") rest place) _ _ (λ _ p r. found (h, true) ((h, true), s) p r (still (h, true))))
-        (same_alike (As {A = Fact Term × Bool}) (read_fixed (codes " => ") rest place) _ _ (λ _ p r. found (h, false) ((h, false), s) p r (still (h, false)))))
+        (found (h, false) ((h, false), s) place rest (still (h, false))))
 
     hypothesis_takes : (bytes : List ℕ) (at : ℕ) (x : Fact Term × Bool) (place : ℕ) (rest : List ℕ) → clauses.one_hypothesis P bytes at ≡ Found x place rest → length rest + 1 ≤ length bytes
     hypothesis_takes bytes at x place rest e =
@@ -230,13 +275,38 @@ module _ {S : Type 0} (s : S) where
     unfolding read_fixed
     no_hypothesis at = refl
 
-    hypotheses_alike : Go (clauses.read_hypotheses P) (walks.read_hypotheses (spelled_term P) no_counts P)
-    hypotheses_alike bytes at = if_alike (As {A = List (Fact Term)}) (front bytes == 61) _ _ _ _
-        (same_alike (As {A = List (Fact Term)}) (read_fixed (codes "=> ") bytes at) _ _ (λ _ p r. found [] ([], s) p r (still [])))
-        (things_alike (clauses.one_hypothesis P) (walks.one_hypothesis (spelled_term P) no_counts P) one_alike no_hypothesis hypothesis_takes bytes at)
+    hypotheses_alike : Go (things (clauses.one_hypothesis P)) (walks.some_hypotheses (spelled_term P) no_counts P)
+    hypotheses_alike bytes at = things_alike (clauses.one_hypothesis P) (walks.one_hypothesis (spelled_term P) no_counts P) one_alike no_hypothesis hypothesis_takes bytes at
 
-    pub clause_alike : Go (clauses.read_clause P) (walks.read_clause (spelled_term P) no_counts P)
+    abbrev made_of : List (Fact Term) → List (SidesOf Term) → Premises
+    made_of hs ds = record { hypotheses = hs; diffs = ds }
+
+    spaced_alike : (hs : List (Fact Term)) (o : Outcome (List (SidesOf Term))) (p : Outcome (List (SidesOf Term) × S)) → Alike (As {A = List (SidesOf Term)}) o p
+        → Alike (As {A = Premises}) (clauses.spaced hs o) (walks.spaced (spelled_term P) (spelled_side P) no_counts hs p)
+    spaced_alike hs o p alike =
+        then_alike {A = List (SidesOf Term)} {B = Premises} o p _ _ alike (λ ds q r.
+        same_alike (As {A = Premises}) (read_fixed (codes " ") r q) _ _ (λ _ q r. found (made_of hs ds) (made_of hs ds, s) q r (still (made_of hs ds))))
+
+    some_premises_alike : Go (clauses.some_premises P) (walks.some_premises (spelled_term P) (spelled_side P) no_counts P)
+    some_premises_alike bytes at = if_alike (As {A = Premises}) (front bytes == 100) _ _ _ _
+        (spaced_alike [] (things (clauses.one_diff P) bytes at) (walks.some_diffs (spelled_side P) no_counts s bytes at) (some_diffs_alike bytes at))
+        (then_alike {A = List (Fact Term)} {B = Premises} (things (clauses.one_hypothesis P) bytes at) (walks.some_hypotheses (spelled_term P) no_counts P s bytes at) _ _ (hypotheses_alike bytes at)
+        (λ hs p r. spaced_alike hs (clauses.read_diffs P r p) (walks.read_diffs (spelled_side P) no_counts s r p) (diffs_alike r p)))
+
+    premises_alike : Go (clauses.read_premises P) (walks.read_premises (spelled_term P) (spelled_side P) no_counts P)
+    premises_alike bytes at = if_alike (As {A = Premises}) (front bytes == 61) _ _ _ _ (found (made_of [] []) (made_of [] [], s) at bytes (still (made_of [] []))) (some_premises_alike bytes at)
+
+    abbrev concluded : Premises → Fact Term → SpelledClause Term
+    concluded ps f = record { hypotheses = ps.hypotheses; diffs = ps.diffs; conclusion = f }
+
+    spelled_alike : Go (clauses.read_spelled_clause P) (walks.read_spelled_clause (spelled_term P) (spelled_side P) no_counts P)
+    spelled_alike bytes at =
+        then_alike {A = Premises} {B = SpelledClause Term} (clauses.read_premises P bytes at) (walks.read_premises (spelled_term P) (spelled_side P) no_counts P s bytes at) _ _ (premises_alike bytes at) (λ ps p r.
+        same_alike (As {A = SpelledClause Term}) (read_fixed (codes "=> ") r p) _ _ (λ _ p r.
+        then_alike {A = Fact Term} {B = SpelledClause Term} (facts.read_conclusion P r p) (walks.read_conclusion (spelled_term P) no_counts P s r p) _ _ (conclusion_alike r p) (λ c p r.
+        found (concluded ps c) (concluded ps c, s) p r (still (concluded ps c)))))
+
+    pub clause_alike : Go (clauses.read_clause P) (walks.read_clause (spelled_term P) (spelled_side P) no_counts P)
     clause_alike bytes at =
-        then_alike {A = List (Fact Term)} {B = Clause Term} (clauses.read_hypotheses P bytes at) (walks.read_hypotheses (spelled_term P) no_counts P s bytes at) _ _ (hypotheses_alike bytes at) (λ hs p r.
-        then_alike {A = Fact Term} {B = Clause Term} (facts.read_conclusion P r p) (walks.read_conclusion (spelled_term P) no_counts P s r p) _ _ (conclusion_alike r p) (λ c p r.
-        found (record { hypotheses = hs; diffs = []; conclusion = c }) (record { hypotheses = hs; diffs = []; conclusion = c }, s) p r (still (record { hypotheses = hs; diffs = []; conclusion = c }))))
+        then_alike {A = SpelledClause Term} {B = Clause Term} (clauses.read_spelled_clause P bytes at) (walks.read_spelled_clause (spelled_term P) (spelled_side P) no_counts P s bytes at) _ _ (spelled_alike bytes at) (λ c p r.
+        found (meant_clause c) (meant_clause c, s) p r (still (meant_clause c)))

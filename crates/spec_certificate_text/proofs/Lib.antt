@@ -2,6 +2,7 @@ pub mod Worked
 pub mod Runs
 pub mod Apart
 pub mod Names
+pub mod Sides
 pub mod Terms
 pub mod Clauses
 pub mod Followed
@@ -20,6 +21,7 @@ pub mod Things
 pub mod FactsThere
 pub mod Long
 pub mod FactsFound
+pub mod SidesRead
 pub mod ClausesRead
 pub mod CertificatesRead
 pub mod ReportsRead

@@ -30,7 +30,7 @@ phase_long : (n : ℕ) (k : List ℕ) → length k ≤ length (phase_text n k)
 phase_long zero k = omega arith
 phase_long (suc n) k = omega (arith, length-append (decimal (suc n)) k)
 
-pub fact_long : (f : LooseFact) (k : List ℕ) → length k ≤ length (fact_onto f k)
+pub fact_long : (f : LooseFact) (k : List ℕ) → length k + 1 ≤ length (fact_onto f k)
 fact_long f k = omega (arith, length-append f.predicate (phase_text f.phase (40 ∷ row f.arguments (41 ∷ k))), phase_long f.phase (40 ∷ row f.arguments (41 ∷ k)), row_long f.arguments (41 ∷ k))
 
 -- where each thing is one byte longer at least, there are no more things than bytes

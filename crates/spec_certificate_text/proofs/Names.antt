@@ -1,7 +1,6 @@
 -- The words of symbols and events of a protocol: each is a word, and the word of one name.
-use Rattle.std.proofs.Common.{◌≡◌, ℕ, zero, suc, ◌<◌, Bool, true, ◌==◌, ◌&&◌, ◌||◌, List, [], ◌∷◌, ◌++◌, length, Some, slice_get, option_map, unwrap_or, refl, sym, ◌∙◌, ap, subst, arith}
+use Rattle.std.proofs.Common.{◌≡◌, ℕ, zero, suc, ◌<◌, ◌≤◌, Bool, true, ◌&&◌, List, [], ◌∷◌, ◌++◌, length, Some, slice_get, option_map, unwrap_or, refl, sym, ◌∙◌, ap, subst, arith}
 use Rattle.std.specs.Char.{is_ascii_digit}
-use Rattle.std.specs.Int.{is_in_range}
 use Rattle.std.specs.Str.{all_ascii_digits}
 use Rattle.std.specs.Str.Parse.{digits_value}
 use Rattle.std.specs.Fmt.{decimal}
@@ -13,12 +12,11 @@ use Rattle.spec_calculus.specs.Points.{numbered, nodes}
 use Rattle.spec_well_formed.specs.Signature.{signature_of}
 use Rattle.spec_well_formed.specs.Words as declared
 use Rattle.spec_well_formed.specs.Processes.{EachWord}
-use Rattle.spec_protocol_tokens.specs.Bytes.{is_in_word}
 use Rattle.spec_protocol_scope.specs.Names.{is_variable}
 use Rattle.spec_protocol_scope.specs.Words.{IsIdentifier, IsSymbolWord}
 use Rattle.spec_certificate_text.specs.Words.{declared_word, word_of_process, word_at}
 use Rattle.spec_certificate_text.specs.Spelled.{IsWord, AreDigits}
-use Rattle.spec_certificate_text.proofs.Runs.{both_left, both_right}
+use Rattle.spec_certificate_text.proofs.Apart.{digits_in_word}
 use Rattle.spec_certificate_text.specs.OfProtocol.{IsDeclared, IsConstructor, IsDeclaredOver, IsEvent, IsTable, IsRestriction, IsShort, HasNames}
 
 -- what holds of all holds of the one of a number
@@ -105,15 +103,6 @@ decimal_digits n short = sym (all_digits (decimal n)) ∙ digits_decimal digits_
 pub one_decimal : (m n : ℕ) → IsShort m → IsShort n → decimal m ≡ decimal n → m ≡ n
 one_decimal m n short_m short_n e = decimal_injective m n (omega arith) (omega arith) e
 
-digit_in_word : (b : ℕ) → is_ascii_digit b ≡ true → is_in_word b ≡ true
-digit_in_word b e = ap (λ c. (((c || is_in_range 65 90 b) || is_in_range 97 122 b) || (b == 95)) || (b == 39)) e
-
-digits_in_word : (bytes : List ℕ) → list_all is_ascii_digit bytes ≡ true → list_all is_in_word bytes ≡ true
-digits_in_word [] e = refl
-digits_in_word (b ∷ bytes) e =
-    ap (λ c. c && list_all is_in_word bytes) (digit_in_word b (both_left (is_ascii_digit b) (list_all is_ascii_digit bytes) e))
-    ∙ digits_in_word bytes (both_right (is_ascii_digit b) (list_all is_ascii_digit bytes) e)
-
 -- the name of a variable
 pub variable_is_word : (x : ℕ) → IsShort x → IsWord (118 ∷ decimal x)
 variable_is_word x short = record { begins = refl; goes_on = digits_in_word (decimal x) (decimal_digits x short) }
@@ -121,6 +110,10 @@ variable_is_word x short = record { begins = refl; goes_on = digits_in_word (dec
 some_digits : (digits : List ℕ) → 0 < length digits → AreDigits digits → is_variable (118 ∷ digits) ≡ true
 some_digits [] some digits = absurd (omega (arith, some))
 some_digits (d ∷ ds) some digits = digits
+
+-- a number has a digit
+pub decimal_some : (n : ℕ) → IsShort n → 1 ≤ length (decimal n)
+decimal_some n short = decimal_nonempty n (omega arith)
 
 pub variable_is_variable : (x : ℕ) → IsShort x → is_variable (118 ∷ decimal x) ≡ true
 variable_is_variable x short = some_digits (decimal x) (decimal_nonempty x (omega arith)) (decimal_digits x short)

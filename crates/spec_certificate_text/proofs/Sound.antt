@@ -9,8 +9,8 @@ use Rattle.spec_certificate_text.specs.Loose.{onto, row, behind}
 use Rattle.spec_certificate_text.specs.Written.{written, written_row}
 use Rattle.spec_certificate_text.specs.Text.{term_text}
 use Rattle.spec_certificate_text.proofs.Runs.{both_left, both_right}
-use Rattle.spec_certificate_text.specs.Terms.{Open, Begins, InWord, AtBracket, Ended, Step, Fault, head_text, arguments_text, heads_text}
-use Rattle.spec_certificate_text.specs.Steps.{is_deep, goes, unless_deep, opened, with_parts, has_arity, closed, closing_byte, may_close, may_go_on, may_be_empty, after_term, begin_term, at_begin}
+use Rattle.spec_certificate_text.specs.Terms.{Open, Begins, InWord, AtBracket, InBound, Ended, Step, Fault, head_text, arguments_text, heads_text}
+use Rattle.spec_certificate_text.specs.Steps.{is_deep, goes, unless_deep, opened, with_parts, has_arity, closed, closing_byte, may_close, may_go_on, may_be_empty, after_term, begin_bound, begin_term, at_begin}
 use Rattle.spec_certificate_text.specs.Sound.{IsSound}
 
 -- a choice is sound where each side is
@@ -73,16 +73,23 @@ after_term-sound P text b k at t (o ∷ heads) from e =
     (e ∙ ap (heads_text P heads) (ap (λ c. head_text P o.symbol (arguments_text P o.arguments (term_text P t (c ∷ k)))) is ∙ closed_text P o.symbol (length (o.arguments ++ t ∷ [])) o.arguments t k)))
     (λ stays. tt))
 
-begin_term-sound : (P : Protocol) (text : List ℕ) (b : ℕ) (k : List ℕ) (at : ℕ) (heads : List Open) → text ≡ heads_text P heads (b ∷ k) → IsSound P text b k (begin_term at heads b)
-begin_term-sound P text b k at heads e =
+-- a bound variable begins
+begin_bound-sound : (binds : Bool) (P : Protocol) (text : List ℕ) (b : ℕ) (k : List ℕ) (at : ℕ) (heads : List Open) → b ≡ 63 → text ≡ heads_text P heads (b ∷ k) → IsSound P text b k (begin_bound binds at heads)
+begin_bound-sound true P text b k at heads is e = unless_deep-sound P text b k heads at (goes heads (InBound []) at) (e ∙ ap (λ c. heads_text P heads (c ∷ k)) is)
+begin_bound-sound false P text b k at heads is e = tt
+
+begin_term-sound : (binds : Bool) (P : Protocol) (text : List ℕ) (b : ℕ) (k : List ℕ) (at : ℕ) (heads : List Open) → text ≡ heads_text P heads (b ∷ k) → IsSound P text b k (begin_term binds at heads b)
+begin_term-sound binds P text b k at heads e =
     let tuple = unless_deep heads at (opened heads record { symbol = Tuple 0; arity = 0 } at) in
     let bracket = unless_deep heads at (goes heads AtBracket at) in
-    when P text b k (begins_word b) (goes heads (InWord (b ∷ [])) at) (if b == 40 then tuple else (if b == 64 then bracket else Fault at _)) (λ word. e)
-    (λ no_word. when P text b k (b == 40) tuple (if b == 64 then bracket else Fault at _)
+    let bound = begin_bound binds at heads in
+    let otherwise = if b == 63 then bound else Fault at _ in
+    when P text b k (begins_word b) (goes heads (InWord (b ∷ [])) at) (if b == 40 then tuple else (if b == 64 then bracket else otherwise)) (λ word. e)
+    (λ no_word. when P text b k (b == 40) tuple (if b == 64 then bracket else otherwise)
     (λ is. unless_deep-sound P text b k heads at (opened heads record { symbol = Tuple 0; arity = 0 } at) (e ∙ ap (λ c. heads_text P heads (c ∷ k)) (same_byte b 40 is)))
-    (λ no_tuple. when P text b k (b == 64) bracket (Fault at _)
+    (λ no_tuple. when P text b k (b == 64) bracket otherwise
     (λ is. unless_deep-sound P text b k heads at (goes heads AtBracket at) (e ∙ ap (λ c. heads_text P heads (c ∷ k)) (same_byte b 64 is)))
-    (λ none. tt)))
+    (λ no_bracket. when P text b k (b == 63) bound (Fault at _) (λ is. begin_bound-sound binds P text b k at heads (same_byte b 63 is) e) (λ none. tt))))
 
 pub empty_name : (P : Protocol) (s : Sym) (ts : List Term) (k : List ℕ) → may_be_empty s ts ≡ true → head_text P s (arguments_text P ts (93 ∷ k)) ≡ term_text P (node (with_parts s 0) []) k
 empty_name P (Point p) [] k e = refl
@@ -93,12 +100,12 @@ empty_name P (Tuple n) ts k e = absurd (cc)
 empty_name P (Free a) ts k e = absurd (cc)
 empty_name P Attacker ts k e = absurd (cc)
 
-pub at_begin-sound : (P : Protocol) (text : List ℕ) (b : ℕ) (k : List ℕ) (at : ℕ) (heads : List Open) → text ≡ heads_text P heads (b ∷ k) → IsSound P text b k (at_begin at heads b)
-at_begin-sound P text b k at [] e = begin_term-sound P text b k at [] e
-at_begin-sound P text b k at (o ∷ heads) e =
-    let begun = unless_deep heads o.place (begin_term at (o ∷ heads) b) in
+pub at_begin-sound : (binds : Bool) (P : Protocol) (text : List ℕ) (b : ℕ) (k : List ℕ) (at : ℕ) (heads : List Open) → text ≡ heads_text P heads (b ∷ k) → IsSound P text b k (at_begin binds at heads b)
+at_begin-sound binds P text b k at [] e = begin_term-sound binds P text b k at [] e
+at_begin-sound binds P text b k at (o ∷ heads) e =
+    let begun = unless_deep heads o.place (begin_term binds at (o ∷ heads) b) in
     when P text b k ((b == 93) && may_be_empty o.symbol o.arguments) (closed o heads []) begun
     (λ ends.
     let is : b ≡ 93 = same_byte b 93 (both_left (b == 93) (may_be_empty o.symbol o.arguments) ends) in
     closed-sound P text b k o heads [] (e ∙ ap (heads_text P heads) (ap (λ c. head_text P o.symbol (arguments_text P o.arguments (c ∷ k))) is ∙ empty_name P o.symbol o.arguments k (both_right (b == 93) (may_be_empty o.symbol o.arguments) ends))))
-    (λ goes_on. unless_deep-sound P text b k heads o.place (begin_term at (o ∷ heads) b) (begin_term-sound P text b k at (o ∷ heads) e))
+    (λ goes_on. unless_deep-sound P text b k heads o.place (begin_term binds at (o ∷ heads) b) (begin_term-sound binds P text b k at (o ∷ heads) e))

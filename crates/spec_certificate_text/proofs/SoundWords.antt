@@ -1,5 +1,5 @@
 -- No step within a word or digits loses or changes a byte.
-use Rattle.std.proofs.Common.{◌≡◌, ℕ, true, ◌==◌, if◌then◌else◌, List, [], ◌∷◌, ◌++◌, drop, Option, Some, None, refl, sym, ◌∙◌, ap, append_assoc}
+use Rattle.std.proofs.Common.{◌≡◌, ℕ, ◌+◌, ◌-◌, ◌≤◌, Bool, true, ◌==◌, if◌then◌else◌, List, [], ◌∷◌, ◌++◌, drop, Option, Some, None, refl, sym, ◌∙◌, ap, append_assoc, arith}
 use Rattle.std.specs.Char.{is_ascii_digit}
 use Rattle.std.specs.Fmt.{decimal}
 use Rattle.std.specs.List.{list_all}
@@ -14,8 +14,11 @@ use Rattle.spec_certificate_text.specs.Words.{symbol_word}
 use Rattle.spec_certificate_text.specs.Text.{term_text}
 use Rattle.spec_certificate_text.proofs.Runs.{both_left}
 use Rattle.spec_certificate_text.specs.Names.{Named, symbol_called, name_called}
-use Rattle.spec_certificate_text.specs.Terms.{Open, Mode, Begins, InWord, InDigits, AtBracket, Ended, Reading, Fault, head_text, heads_text, mode_text, so_far}
-use Rattle.spec_certificate_text.specs.Steps.{goes, unless_deep, opened, after_term, after_variable, after_name, after_word, apply, in_word, after_point, after_number, after_digits, in_digits, at_bracket, step_in, step}
+use Rattle.spec_certificate_text.specs.Terms.{Open, Mode, Begins, InWord, InDigits, AtBracket, InBound, Ended, Reading, Fault, head_text, heads_text, mode_text, so_far}
+use Rattle.spec_certificate_text.specs.Steps.{goes, unless_deep, opened, after_term, after_variable, after_name, after_word, apply, in_word, after_point, after_number, after_digits, in_digits, at_bracket, after_bound, bound_ended, in_bound, step_in, step}
+use Rattle.spec_certificate_text.specs.Sides.{first_bound, variable_word}
+use Rattle.spec_certificate_text.specs.Spelled.{goes_on}
+use Rattle.spec_certificate_text.proofs.Sides.{own_word, bound_word}
 use Rattle.spec_certificate_text.specs.Sound.{IsSound}
 use Rattle.spec_certificate_text.proofs.Named.{IsWorded, symbol_called_is, name_called_is}
 use Rattle.spec_certificate_text.proofs.Sound.{when, same_byte, unless_deep-sound, after_term-sound, at_begin-sound}
@@ -29,7 +32,28 @@ variable_rest (b ∷ d ∷ ds) e = ap (λ c. c ∷ d ∷ ds) (same_byte b 118 (b
 after_variable-sound : (P : Protocol) (text : List ℕ) (b : ℕ) (k : List ℕ) (at : ℕ) (heads : List Open) (from : ℕ) (digits : List ℕ) (number : Option ℕ) → numeral digits ≡ number → text ≡ heads_text P heads (118 ∷ (digits ++ (b ∷ k))) → IsSound P text b k (after_variable at heads from digits number b)
 after_variable-sound P text b k at heads from digits None is e = tt
 after_variable-sound P text b k at heads from digits (Some x) is e =
-    after_term-sound P text b k at (Leaf x) heads from (e ∙ ap (λ ds. heads_text P heads (118 ∷ (ds ++ (b ∷ k)))) (numeral_some digits x is).0)
+    let told = numeral_some digits x is in
+    after_term-sound P text b k at (Leaf x) heads from (e ∙ (ap (λ ds. heads_text P heads (118 ∷ (ds ++ (b ∷ k)))) told.0 ∙ ap (λ w. heads_text P heads (w ++ (b ∷ k))) (sym (own_word x told.1))))
+
+-- a bound variable is `?` and its digits
+after_bound-sound : (P : Protocol) (text : List ℕ) (b : ℕ) (k : List ℕ) (at : ℕ) (heads : List Open) (from : ℕ) (digits : List ℕ) (number : Option ℕ) → numeral digits ≡ number → text ≡ heads_text P heads (63 ∷ (digits ++ (b ∷ k))) → IsSound P text b k (after_bound at heads from digits number b)
+after_bound-sound P text b k at heads from digits None is e = tt
+after_bound-sound P text b k at heads from digits (Some i) is e =
+    let told = numeral_some digits i is in
+    let over : first_bound ≤ first_bound + i = omega arith in
+    let back : (first_bound + i) - first_bound ≡ i = omega arith in
+    let word : 63 ∷ digits ≡ variable_word (first_bound + i) = ap (λ ds. 63 ∷ ds) (told.0 ∙ ap decimal (sym back)) ∙ sym (bound_word (first_bound + i) over) in
+    let ended = after_term at (Leaf (first_bound + i)) heads from b in
+    when P text b k (goes_on b) (Fault at _) ended (λ more. tt) (λ stops. after_term-sound P text b k at (Leaf (first_bound + i)) heads from (e ∙ ap (λ w. heads_text P heads (w ++ (b ∷ k))) word))
+
+bound_ended-sound : (P : Protocol) (text : List ℕ) (b : ℕ) (k : List ℕ) (at : ℕ) (heads : List Open) (from : ℕ) (digits : List ℕ) → text ≡ heads_text P heads (63 ∷ (digits ++ (b ∷ k))) → IsSound P text b k (bound_ended at heads from digits b)
+bound_ended-sound P text b k at heads from [] e = tt
+bound_ended-sound P text b k at heads from (d ∷ ds) e = after_bound-sound P text b k at heads from (d ∷ ds) (numeral (d ∷ ds)) refl e
+
+in_bound-sound : (P : Protocol) (text : List ℕ) (b : ℕ) (k : List ℕ) (at : ℕ) (heads : List Open) (from : ℕ) (digits : List ℕ) → text ≡ heads_text P heads (63 ∷ (digits ++ (b ∷ k))) → IsSound P text b k (in_bound at heads from digits b)
+in_bound-sound P text b k at heads from digits e =
+    when P text b k (is_ascii_digit b) (goes heads (InBound (digits ++ b ∷ [])) from) (bound_ended at heads from digits b)
+    (λ digit. e ∙ ap (λ rest. heads_text P heads (63 ∷ rest)) (sym (append_assoc digits (b ∷ []) k))) (λ ends. bound_ended-sound P text b k at heads from digits e)
 
 pub alone_text : (P : Protocol) (s : Sym) (rest : List ℕ) → IsWorded s → term_text P (node s []) rest ≡ symbol_word P s ++ rest
 alone_text P (Ctor f) rest worded = refl
@@ -116,12 +140,13 @@ at_bracket-sound P text b k at heads from e =
     (λ is. e ∙ ap (λ c. heads_text P heads (64 ∷ c ∷ k)) (same_byte b 91 is)) (λ none. tt)
 
 -- a step that is not refused keeps the text
-pub step-sound : (P : Protocol) (at : ℕ) (r : Reading) (b : ℕ) (k : List ℕ) → IsSound P (so_far P r (b ∷ k)) b k (step P at r b)
-step-sound P at r b k = by r.mode
+pub step-sound : (binds : Bool) (P : Protocol) (at : ℕ) (r : Reading) (b : ℕ) (k : List ℕ) → IsSound P (so_far P r (b ∷ k)) b k (step binds P at r b)
+step-sound binds P at r b k = by r.mode
   where
-    by : (mode : Mode) → IsSound P (heads_text P r.heads (mode_text P mode (b ∷ k))) b k (step_in P at r.heads r.from mode b)
-    by Begins = at_begin-sound P (heads_text P r.heads (b ∷ k)) b k at r.heads refl
+    by : (mode : Mode) → IsSound P (heads_text P r.heads (mode_text P mode (b ∷ k))) b k (step_in binds P at r.heads r.from mode b)
+    by Begins = at_begin-sound binds P (heads_text P r.heads (b ∷ k)) b k at r.heads refl
     by (InWord word) = in_word-sound P (heads_text P r.heads (word ++ (b ∷ k))) b k at r.heads r.from word refl
     by (InDigits word digits) = in_digits-sound P (heads_text P r.heads (word ++ (64 ∷ (digits ++ (b ∷ k))))) b k at r.heads r.from word digits refl
     by AtBracket = at_bracket-sound P (heads_text P r.heads (64 ∷ b ∷ k)) b k at r.heads r.from refl
+    by (InBound digits) = in_bound-sound P (heads_text P r.heads (63 ∷ (digits ++ (b ∷ k)))) b k at r.heads r.from digits refl
     by (Ended t) = after_term-sound P (heads_text P r.heads (term_text P t (b ∷ k))) b k at t r.heads r.from refl

@@ -1,5 +1,8 @@
 -- Terms of a protocol are told apart by how they are written.
-use Rattle.std.proofs.Common.{◌≡◌, ℕ, Bool, true, false, List, ◌∷◌, length, Some, refl, sym, ◌∙◌, ap, subst}
+use Rattle.std.proofs.Common.{◌≡◌, ◌⊎◌, ℕ, ◌-◌, ◌<◌, ◌≤◌, Bool, true, false, List, [], length, Some, inl, inr, refl, sym, ◌∙◌, ap, subst, arith}
+use Rattle.std.specs.Prelude.{nat_lt}
+use borrow.Author.Tests.{ltb-true, ltb-false}
+use Rattle.std.proofs.lemmas.List.{append-nil}
 use Rattle.std.specs.Fmt.{decimal}
 use Rattle.spec_trees.specs.Tree.{Trees, Leaf, Node, none, more, items_of}
 use Rattle.spec_calculus.specs.Syntax.{Protocol}
@@ -10,14 +13,18 @@ use Rattle.spec_terms.specs.Term.{Sym, Ctor, Data, Tuple, Free, Point, Attacker,
 use Rattle.spec_certificate_text.specs.Loose.{Head, Applied, Tupled, Made, Attackers, Loose, LooseRow}
 use Rattle.spec_certificate_text.specs.Words.{declared_word, word_at}
 use Rattle.spec_certificate_text.specs.Written.{applied, headed, written, written_row}
-use Rattle.spec_certificate_text.specs.Spelled.{IsWord, IsLoose, AreLoose}
-use Rattle.spec_certificate_text.specs.OfProtocol.{IsDeclared, IsConstructor, IsShort, IsSymbolOf, IsTermOf, AreTermsOf, HasNames}
-use Rattle.spec_certificate_text.proofs.Names.{constructor_word, free_word, symbol_word_is_word, restriction_word_is_word, decimal_digits, one_decimal, variable_is_word, variable_is_variable, one_name, constructor_named, free_named}
+use Rattle.spec_certificate_text.specs.Spelled.{IsWord, IsBoundWord, IsLoose, AreLoose}
+use Rattle.spec_certificate_text.specs.OfProtocol.{IsDeclared, IsConstructor, IsShort, IsSymbolOf, IsTermBelow, AreTermsBelow, IsTermOf, AreTermsOf, most_side_variables, HasNames}
+use Rattle.spec_certificate_text.specs.Sides.{first_bound, variable_word}
+use Rattle.spec_certificate_text.proofs.Runs.{first_same, later_same}
+use Rattle.spec_certificate_text.proofs.Apart.{word_begins}
+use Rattle.spec_certificate_text.proofs.Sides.{own_word, bound_word}
+use Rattle.spec_certificate_text.proofs.Names.{constructor_word, free_word, symbol_word_is_word, restriction_word_is_word, decimal_digits, decimal_some, one_decimal, variable_is_word, variable_is_variable, one_name, constructor_named, free_named}
 
 -- What is written of a protocol's terms is loose.
 
 pub applied_is_loose : (w : List ℕ) (ts : LooseRow) → IsWord w → AreLoose ts → IsLoose (applied w ts)
-applied_is_loose w none word are = word
+applied_is_loose w none word are = inl word
 applied_is_loose w (more t ts) word are = (word, are)
 
 headed_is_loose : (P : Protocol) → HasNames P → (f : Sym) (n : ℕ) (ts : LooseRow) → IsSymbolOf P f n → AreLoose ts → IsLoose (headed P f ts)
@@ -28,14 +35,36 @@ headed_is_loose P names (Free a) n ts is are = applied_is_loose (declared_word P
 headed_is_loose P names (Point p) n ts is are = ((restriction_word_is_word P p n names is.0, decimal_digits p is.1), are)
 headed_is_loose P names Attacker n ts is are = (tt, are)
 
-mutual
-  pub written_is_loose : (P : Protocol) → HasNames P → (t : Term) → IsTermOf P t → IsLoose (written P t)
-  written_is_loose P names (Leaf x) is = variable_is_word x is
-  written_is_loose P names (Node f ts) is = headed_is_loose P names f (length (items_of ts)) (written_row P ts) is.0 (written_are_loose P names ts is.1)
+-- the word of a variable
+pub variable_is_loose : (x : ℕ) → x < most_side_variables → IsWord (variable_word x) ⊎ IsBoundWord (variable_word x)
+variable_is_loose x below = go (nat_lt x first_bound) refl where
+  go : (b : Bool) → nat_lt x first_bound ≡ b → IsWord (variable_word x) ⊎ IsBoundWord (variable_word x)
+  go true e = inl (subst IsWord (sym (own_word x (ltb-true x first_bound e))) (variable_is_word x (ltb-true x first_bound e)))
+  go false e =
+      let over = ltb-false x first_bound e in
+      let short : x - first_bound < first_bound = omega (arith, below, over) in
+      inr record { digits = decimal (x - first_bound); some = decimal_some (x - first_bound) short; all = decimal_digits (x - first_bound) short; is = bound_word x over }
 
-  pub written_are_loose : (P : Protocol) → HasNames P → (ts : Trees ℕ Sym) → AreTermsOf P ts → AreLoose (written_row P ts)
-  written_are_loose P names none are = tt
-  written_are_loose P names (more t ts) are = (written_is_loose P names t are.0, written_are_loose P names ts are.1)
+-- terms whose variables are spelled
+module _ (most : ℕ) (low : most ≤ most_side_variables) where
+  mutual
+    pub sides_are_loose : (P : Protocol) → HasNames P → (t : Term) → IsTermBelow most P t → IsLoose (written P t)
+    sides_are_loose P names (Leaf x) is = variable_is_loose x (omega (arith, is, low))
+    sides_are_loose P names (Node f ts) is = headed_is_loose P names f (length (items_of ts)) (written_row P ts) is.0 (side_rows_are_loose P names ts is.1)
+
+    pub side_rows_are_loose : (P : Protocol) → HasNames P → (ts : Trees ℕ Sym) → AreTermsBelow most P ts → AreLoose (written_row P ts)
+    side_rows_are_loose P names none are = tt
+    side_rows_are_loose P names (more t ts) are = (sides_are_loose P names t are.0, side_rows_are_loose P names ts are.1)
+
+-- those of facts among them
+pub facts_low : first_bound ≤ most_side_variables
+facts_low = omega arith
+
+pub written_is_loose : (P : Protocol) → HasNames P → (t : Term) → IsTermOf P t → IsLoose (written P t)
+written_is_loose P names t is = sides_are_loose first_bound facts_low P names t is
+
+pub written_are_loose : (P : Protocol) → HasNames P → (ts : Trees ℕ Sym) → AreTermsOf P ts → AreLoose (written_row P ts)
+written_are_loose P names ts are = side_rows_are_loose first_bound facts_low P names ts are
 
 -- And it is written of one term alone.
 
@@ -137,41 +166,69 @@ symbols_apart P names Attacker Attacker n is_f is_g e = refl
 symbols_apart P names f g n is_f is_g e = absurd (cc)
 
 -- a variable is no symbol
-no_variable : (w : List ℕ) (ts : LooseRow) (x : ℕ) → IsShort x → IsSymbolWord w → Leaf (118 ∷ decimal x) ≡ applied w ts → ⊥
-no_variable w none x short is e =
-    let words : 118 ∷ decimal x ≡ w = cc in
-    let differ : true ≡ false = sym (variable_is_variable x short) ∙ (ap is_variable words ∙ is.1) in cc
-no_variable w (more t ts) x short is e = cc
+no_variable : (w : List ℕ) (ts : LooseRow) (x : ℕ) → x < most_side_variables → IsSymbolWord w → Leaf (variable_word x) ≡ applied w ts → ⊥
+no_variable w none x below is e = go (nat_lt x first_bound) refl where
+  words : variable_word x ≡ w
+  words = cc
 
-variables_apart : (P : Protocol) → HasNames P → (x : ℕ) (f : Sym) (n : ℕ) (ts : LooseRow) → IsShort x → IsSymbolOf P f n → Leaf (118 ∷ decimal x) ≡ headed P f ts → ⊥
-variables_apart P names x (Ctor f) n ts short is e = no_variable (declared_word P.constructors f) ts x short (constructor_word P false f n names is) e
-variables_apart P names x (Data f) n ts short is e = no_variable (declared_word P.constructors f) ts x short (constructor_word P true f n names is) e
-variables_apart P names x (Tuple m) n ts short is e = cc
-variables_apart P names x (Free a) n ts short is e = no_variable (declared_word P.frees a) ts x short (free_word P a names is.0) e
-variables_apart P names x (Point p) n ts short is e = cc
-variables_apart P names x Attacker n ts short is e = cc
+  go : (b : Bool) → nat_lt x first_bound ≡ b → ⊥
+  go true f =
+      let short = ltb-true x first_bound f in
+      let differ : true ≡ false = sym (variable_is_variable x short) ∙ (ap is_variable (sym (own_word x short) ∙ words) ∙ is.1) in cc
+  go false f = word_begins w [] 63 (decimal (x - first_bound)) (symbol_word_is_word w is) refl (append-nil w ∙ (sym words ∙ bound_word x (ltb-false x first_bound f)))
+no_variable w (more t ts) x below is e = cc
 
-variables_same : (x y : ℕ) → IsShort x → IsShort y → ◌≡◌ {A = Loose} (Leaf (118 ∷ decimal x)) (Leaf (118 ∷ decimal y)) → x ≡ y
-variables_same x y short_x short_y e = let digits : decimal x ≡ decimal y = cc in one_decimal x y short_x short_y digits
+variables_apart : (P : Protocol) → HasNames P → (x : ℕ) (f : Sym) (n : ℕ) (ts : LooseRow) → x < most_side_variables → IsSymbolOf P f n → Leaf (variable_word x) ≡ headed P f ts → ⊥
+variables_apart P names x (Ctor f) n ts below is e = no_variable (declared_word P.constructors f) ts x below (constructor_word P false f n names is) e
+variables_apart P names x (Data f) n ts below is e = no_variable (declared_word P.constructors f) ts x below (constructor_word P true f n names is) e
+variables_apart P names x (Tuple m) n ts below is e = cc
+variables_apart P names x (Free a) n ts below is e = no_variable (declared_word P.frees a) ts x below (free_word P a names is.0) e
+variables_apart P names x (Point p) n ts below is e = cc
+variables_apart P names x Attacker n ts below is e = cc
 
-mutual
-  pub written_apart : (P : Protocol) → HasNames P → (t u : Term) → IsTermOf P t → IsTermOf P u → written P t ≡ written P u → t ≡ u
-  written_apart P names (Leaf x) (Leaf y) is_t is_u e = ap Leaf (variables_same x y is_t is_u e)
-  written_apart P names (Leaf x) (Node g us) is_t is_u e = absurd (variables_apart P names x g (length (items_of us)) (written_row P us) is_t is_u.0 e)
-  written_apart P names (Node f ts) (Leaf y) is_t is_u e = absurd (variables_apart P names y f (length (items_of ts)) (written_row P ts) is_u is_t.0 (sym e))
-  written_apart P names (Node f ts) (Node g us) is_t is_u e =
-      let rows : ts ≡ us = rows_apart P names ts us is_t.1 is_u.1 (sym (arguments-headed P f (written_row P ts)) ∙ (ap arguments_of e ∙ arguments-headed P g (written_row P us))) in
-      let heads : symbol_head P f ≡ symbol_head P g = sym (head-headed P f (written_row P ts)) ∙ (ap head_of e ∙ head-headed P g (written_row P us)) in
-      let symbols : f ≡ g = symbols_apart P names f g (length (items_of us)) (subst (λ vs. IsSymbolOf P f (length (items_of vs))) rows is_t.0) is_u.0 heads in
-      ap (λ h. Node h ts) symbols ∙ ap (Node g) rows
+variables_same : (x y : ℕ) → x < most_side_variables → y < most_side_variables → variable_word x ≡ variable_word y → x ≡ y
+variables_same x y below_x below_y e = go (nat_lt x first_bound) (nat_lt y first_bound) refl refl where
+  go : (a b : Bool) → nat_lt x first_bound ≡ a → nat_lt y first_bound ≡ b → x ≡ y
+  go true true f g =
+      let short_x = ltb-true x first_bound f in
+      let short_y = ltb-true y first_bound g in
+      one_decimal x y short_x short_y (later_same 118 118 (decimal x) (decimal y) (sym (own_word x short_x) ∙ (e ∙ own_word y short_y)))
+  go true false f g = let first = first_same 118 63 _ _ (sym (own_word x (ltb-true x first_bound f)) ∙ (e ∙ bound_word y (ltb-false y first_bound g))) in absurd (omega (arith, first))
+  go false true f g = let first = first_same 63 118 _ _ (sym (bound_word x (ltb-false x first_bound f)) ∙ (e ∙ own_word y (ltb-true y first_bound g))) in absurd (omega (arith, first))
+  go false false f g =
+      let over_x = ltb-false x first_bound f in
+      let over_y = ltb-false y first_bound g in
+      let short_x : x - first_bound < first_bound = omega (arith, below_x, over_x) in
+      let short_y : y - first_bound < first_bound = omega (arith, below_y, over_y) in
+      let same = one_decimal (x - first_bound) (y - first_bound) short_x short_y (later_same 63 63 _ _ (sym (bound_word x over_x) ∙ (e ∙ bound_word y over_y))) in
+      omega (arith, same, over_x, over_y)
 
-  pub rows_apart : (P : Protocol) → HasNames P → (ts us : Trees ℕ Sym) → AreTermsOf P ts → AreTermsOf P us → written_row P ts ≡ written_row P us → ts ≡ us
-  rows_apart P names none none are_t are_u e = refl
-  rows_apart P names none (more u us) are_t are_u e = absurd (cc)
-  rows_apart P names (more t ts) none are_t are_u e = absurd (cc)
-  rows_apart P names (more t ts) (more u us) are_t are_u e =
-      let first : written P t ≡ written P u = cc in
-      let later : written_row P ts ≡ written_row P us = cc in
-      let same : t ≡ u = written_apart P names t u are_t.0 are_u.0 first in
-      let others : ts ≡ us = rows_apart P names ts us are_t.1 are_u.1 later in
-      ap (λ v. more v ts) same ∙ ap (more u) others
+module _ (most : ℕ) (low : most ≤ most_side_variables) where
+  mutual
+    pub sides_apart : (P : Protocol) → HasNames P → (t u : Term) → IsTermBelow most P t → IsTermBelow most P u → written P t ≡ written P u → t ≡ u
+    sides_apart P names (Leaf x) (Leaf y) is_t is_u e = let words : variable_word x ≡ variable_word y = cc in ap Leaf (variables_same x y (omega (arith, is_t, low)) (omega (arith, is_u, low)) words)
+    sides_apart P names (Leaf x) (Node g us) is_t is_u e = absurd (variables_apart P names x g (length (items_of us)) (written_row P us) (omega (arith, is_t, low)) is_u.0 e)
+    sides_apart P names (Node f ts) (Leaf y) is_t is_u e = absurd (variables_apart P names y f (length (items_of ts)) (written_row P ts) (omega (arith, is_u, low)) is_t.0 (sym e))
+    sides_apart P names (Node f ts) (Node g us) is_t is_u e =
+        let rows : ts ≡ us = side_rows_apart P names ts us is_t.1 is_u.1 (sym (arguments-headed P f (written_row P ts)) ∙ (ap arguments_of e ∙ arguments-headed P g (written_row P us))) in
+        let heads : symbol_head P f ≡ symbol_head P g = sym (head-headed P f (written_row P ts)) ∙ (ap head_of e ∙ head-headed P g (written_row P us)) in
+        let symbols : f ≡ g = symbols_apart P names f g (length (items_of us)) (subst (λ vs. IsSymbolOf P f (length (items_of vs))) rows is_t.0) is_u.0 heads in
+        ap (λ h. Node h ts) symbols ∙ ap (Node g) rows
+
+    pub side_rows_apart : (P : Protocol) → HasNames P → (ts us : Trees ℕ Sym) → AreTermsBelow most P ts → AreTermsBelow most P us → written_row P ts ≡ written_row P us → ts ≡ us
+    side_rows_apart P names none none are_t are_u e = refl
+    side_rows_apart P names none (more u us) are_t are_u e = absurd (cc)
+    side_rows_apart P names (more t ts) none are_t are_u e = absurd (cc)
+    side_rows_apart P names (more t ts) (more u us) are_t are_u e =
+        let first : written P t ≡ written P u = cc in
+        let later : written_row P ts ≡ written_row P us = cc in
+        let same : t ≡ u = sides_apart P names t u are_t.0 are_u.0 first in
+        let others : ts ≡ us = side_rows_apart P names ts us are_t.1 are_u.1 later in
+        ap (λ v. more v ts) same ∙ ap (more u) others
+
+-- those of facts
+pub written_apart : (P : Protocol) → HasNames P → (t u : Term) → IsTermOf P t → IsTermOf P u → written P t ≡ written P u → t ≡ u
+written_apart P names t u is_t is_u e = sides_apart first_bound facts_low P names t u is_t is_u e
+
+pub rows_apart : (P : Protocol) → HasNames P → (ts us : Trees ℕ Sym) → AreTermsOf P ts → AreTermsOf P us → written_row P ts ≡ written_row P us → ts ≡ us
+rows_apart P names ts us are_t are_u e = side_rows_apart first_bound facts_low P names ts us are_t are_u e

@@ -62,21 +62,36 @@ things_there {A} one Is r sound (suc most) xs bytes at ys place rest e =
 abbrev pub Complete : {A : Type 0} → (A → List ℕ → List ℕ) → (A → Type 0) → Reader A → Type 0
 Complete {A} text Is r = (x : A) (rest : List ℕ) (at : ℕ) → Is x → Finds (r (text x rest) at) x rest
 
-pub things_found : {A : Type 0} (one : A × Bool → List ℕ → List ℕ) (Is : A → Type 0) (r : Reader (A × Bool)) → Complete one (IsOne Is) r
-    → (most : ℕ) (xs : List A) (x : A) (ys : List A) (rest : List ℕ) (at : ℕ) → length ys + 1 ≤ most → AllByRecursion Is (x ∷ ys)
+-- the same, where what follows may follow: one thing behind another, and what stands behind the last
+pub record CompleteBefore {A : Type 0} (one : A × Bool → List ℕ → List ℕ) (Is : A → Type 0) (May : Bool → List ℕ → Type 0) (r : Reader (A × Bool)) : Type 0 where
+  pub found : (x : A × Bool) (rest : List ℕ) (at : ℕ) → Is x.0 → May x.1 rest → Finds (r (one x rest) at) x rest
+  pub follows : (x : A × Bool) (rest : List ℕ) → Is x.0 → May true (one x rest)
+
+pub things_found_before : {A : Type 0} (one : A × Bool → List ℕ → List ℕ) (Is : A → Type 0) (May : Bool → List ℕ → Type 0) (r : Reader (A × Bool)) → CompleteBefore one Is May r
+    → (most : ℕ) (xs : List A) (x : A) (ys : List A) (rest : List ℕ) (at : ℕ) → length ys + 1 ≤ most → AllByRecursion Is (x ∷ ys) → May false rest
     → Finds (things_from r most xs (things_text one x ys rest) at) (xs ++ x ∷ ys) rest
-things_found one Is r complete zero xs x ys rest at room each = absurd (omega (arith, room))
-things_found {A} one Is r complete (suc most) xs x [] rest at room each =
+things_found_before one Is May r complete zero xs x ys rest at room each may = absurd (omega (arith, room))
+things_found_before {A} one Is May r complete (suc most) xs x [] rest at room each may =
     let text = one (x, false) rest in
-    let found = joined (r text at) (behind_one r most xs) (x, false) rest (xs ++ x ∷ []) rest (complete (x, false) rest at each.0) (λ p. record { place = p; is = refl }) in
+    let found = joined (r text at) (behind_one r most xs) (x, false) rest (xs ++ x ∷ []) rest (complete.found (x, false) rest at each.0 may) (λ p. record { place = p; is = refl }) in
     record { place = found.place; is = one_more r most xs text at ∙ found.is }
-things_found {A} one Is r complete (suc most) xs x (y ∷ ys) rest at room each =
+things_found_before {A} one Is May r complete (suc most) xs x (y ∷ ys) rest at room each may =
     let later = things_text one y ys rest in
     let text = one (x, true) later in
     let same : (xs ++ x ∷ []) ++ y ∷ ys ≡ xs ++ x ∷ y ∷ ys = append_assoc xs (x ∷ []) (y ∷ ys) in
-    let found = joined (r text at) (behind_one r most xs) (x, true) later (xs ++ x ∷ y ∷ ys) rest (complete (x, true) later at each.0)
-    (λ p. subst (λ zs. Finds (things_from r most (xs ++ x ∷ []) later p) zs rest) same (things_found one Is r complete most (xs ++ x ∷ []) y ys rest p (omega (arith, room)) each.1)) in
+    let found = joined (r text at) (behind_one r most xs) (x, true) later (xs ++ x ∷ y ∷ ys) rest (complete.found (x, true) later at each.0 (next_may y ys each.1))
+    (λ p. subst (λ zs. Finds (things_from r most (xs ++ x ∷ []) later p) zs rest) same (things_found_before one Is May r complete most (xs ++ x ∷ []) y ys rest p (omega (arith, room)) each.1 may)) in
     record { place = found.place; is = one_more r most xs text at ∙ found.is }
+  where
+    next_may : (z : A) (zs : List A) → AllByRecursion Is (z ∷ zs) → May true (things_text one z zs rest)
+    next_may z [] are = complete.follows (z, false) rest are.0
+    next_may z (w ∷ ws) are = complete.follows (z, true) (things_text one w ws rest) are.0
+
+pub things_found : {A : Type 0} (one : A × Bool → List ℕ → List ℕ) (Is : A → Type 0) (r : Reader (A × Bool)) → Complete one (IsOne Is) r
+    → (most : ℕ) (xs : List A) (x : A) (ys : List A) (rest : List ℕ) (at : ℕ) → length ys + 1 ≤ most → AllByRecursion Is (x ∷ ys)
+    → Finds (things_from r most xs (things_text one x ys rest) at) (xs ++ x ∷ ys) rest
+things_found one Is r complete most xs x ys rest at room each =
+    things_found_before one Is (λ b k. Unit {0}) r record { found = λ y k p is may. complete y k p is; follows = λ y k is. tt } most xs x ys rest at room each tt
 
 -- where nothing is read of no bytes, and each thing takes a byte at least, as many rounds as bytes are enough
 pub things_enough : {A : Type 0} (r : Reader (A × Bool)) → ((at : ℕ) → r [] at ≡ Faulty at Syntax) → ((bytes : List ℕ) (at : ℕ) (x : A × Bool) (place : ℕ) (rest : List ℕ) → r bytes at ≡ Found x place rest → length rest + 1 ≤ length bytes)

@@ -50,7 +50,7 @@ channel_is_one = ((record { declared = channel; there = refl }, refl), tt)
 
 pub small_is_one : IsCertificateOf sending small
 small_is_one = record {
-  clauses = (record { hypotheses = tt; diffs = refl; conclusion = (first_phase, channel_is_one) }, tt);
+  clauses = (record { hypotheses = tt; diffs = tt; conclusion = (first_phase, channel_is_one) }, tt);
   rows = ((omega arith, tt), ((omega arith, (omega arith, tt)), tt));
   goals = ((omega arith, (omega arith, tt)), tt);
 }
@@ -64,9 +64,9 @@ key_is_one = ((record { declared = key; there = refl }, refl), tt)
 pub begins_is_one : IsClauseOf answering (clause (Mev 1 (made 3 ∷ []) ∷ []) (Att 0 (enc (made 3) k)))
 begins_is_one = record {
   hypotheses = ((record { declared = event_called (codes "begin"); there = refl; arity = refl }, (made_is_one, tt)), tt);
-  diffs = refl;
+  diffs = tt;
   conclusion = ((omega arith, omega arith), (record { declared = encryption; there = refl; data_is = refl; arity = refl }, (made_is_one, (key_is_one, tt))));
 }
 
 pub keeps_is_one : IsClauseOf waiting (clause (Att 0 v0 ∷ []) (Att 1 v0))
-keeps_is_one = record { hypotheses = (((omega arith, omega arith), omega arith), tt); diffs = refl; conclusion = ((omega arith, omega arith), omega arith) }
+keeps_is_one = record { hypotheses = (((omega arith, omega arith), omega arith), tt); diffs = tt; conclusion = ((omega arith, omega arith), omega arith) }

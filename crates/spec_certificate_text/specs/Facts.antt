@@ -1,4 +1,4 @@
--- Reading facts.
+-- Reading facts and constraints.
 use Rattle.std.specs.Prelude.{ℕ, ◌+◌, ◌==◌, ◌&&◌, nat_lt, nat_le, if◌then◌else◌, Bool, true, false, List, [], length, take, drop, Option, Some, None, codes}
 use Rattle.std.specs.List.{prefix_len}
 use Rattle.spec_calculus.specs.Syntax.{Declared, Protocol}
@@ -6,9 +6,10 @@ use Rattle.spec_calculus.specs.Points.{greatest_phase}
 use Rattle.spec_protocol_tokens.specs.Bytes.{begins_word, is_in_word}
 use Rattle.spec_terms.specs.Term.{Term}
 use Rattle.spec_clauses.specs.Fact.{Fact, Att, Mess, Tab, Ev, Mev, Bad}
+use Rattle.spec_certificate_text.specs.Sides.{SidesOf}
 use Rattle.spec_certificate_text.specs.Names.{CalledEvent, called_in}
 use Rattle.spec_certificate_text.specs.Terms.{Syntax, Symbol, Arity}
-use Rattle.spec_certificate_text.specs.Runs.{Read, Done, Refused, read_term}
+use Rattle.spec_certificate_text.specs.Runs.{Read, Done, Refused, read_tree}
 use Rattle.spec_certificate_text.specs.Outcomes.{Outcome, Found, Faulty, next, front, ended, read_fixed, read_number, Reader, things}
 
 -- what was read of a term
@@ -16,15 +17,22 @@ abbrev pub term_outcome : Read → Outcome Term
 term_outcome (Done t place rest) = Found t place rest
 term_outcome (Refused place code) = Faulty place code
 
--- a term
-abbrev pub one_term : Protocol → Reader Term
-one_term P bytes at = term_outcome (read_term P bytes at)
+-- a term of a fact, or a side of a constraint
+abbrev pub one_tree : Bool → Protocol → Reader Term
+one_tree binds P bytes at = term_outcome (read_tree binds P bytes at)
 
--- a term and what stands behind it: `,` where another follows, or `)`
-abbrev pub argument : Protocol → Reader (Term × Bool)
-argument P bytes at = next (one_term P bytes at) (λ t place rest.
+abbrev pub one_term : Protocol → Reader Term
+one_term P bytes at = one_tree false P bytes at
+
+-- a term or a side and what stands behind it: `,` where another follows, or the byte that closes their row
+abbrev pub item_before : ℕ → Reader Term → Reader (Term × Bool)
+item_before closing one bytes at = next (one bytes at) (λ t place rest.
     if front rest == 44 then Found (t, true) (place + 1) (drop 1 rest)
-    else (if front rest == 41 then Found (t, false) (place + 1) (drop 1 rest) else Faulty place Syntax))
+    else (if front rest == closing then Found (t, false) (place + 1) (drop 1 rest) else Faulty place Syntax))
+
+-- a term and `,` behind it where another follows, or `)`
+abbrev pub argument : Protocol → Reader (Term × Bool)
+argument P bytes at = item_before 41 (one_term P) bytes at
 
 -- terms, a comma between each two, and `)` behind the last
 abbrev pub read_terms : Protocol → Reader (List Term)
@@ -148,3 +156,23 @@ read_conclusion P bytes at =
     else (if front bytes == 101 then read_ev P bytes at
     else (if front bytes == 98 then read_bad P bytes at
     else (if front bytes == 116 then read_tab P bytes at else read_att P bytes at)))
+
+-- Constraints.
+
+-- a side
+abbrev pub one_side : Protocol → Reader Term
+one_side P bytes at = one_tree true P bytes at
+
+-- sides, a comma between each two, and behind the last the byte that closes their row
+abbrev pub read_sides : Protocol → ℕ → Reader (List Term)
+read_sides P closing bytes at = things (item_before closing (one_side P)) bytes at
+
+-- as many left sides as right sides, of a constraint that begins at the place
+abbrev pub paired : ℕ → List Term → List Term → ℕ → List ℕ → Outcome (SidesOf Term)
+paired from left right place rest = if length left == length right then Found (record { left = left; right = right }) place rest else Faulty from Arity
+
+abbrev pub read_diff : Protocol → Reader (SidesOf Term)
+read_diff P bytes at =
+    next (read_fixed (codes "diff(") bytes at) (λ _ p r.
+    next (read_sides P 59 r p) (λ left p r.
+    next (read_sides P 41 r p) (λ right p r. paired at left right p r)))

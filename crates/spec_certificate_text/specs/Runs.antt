@@ -1,8 +1,8 @@
 -- Reading a term from some bytes.
-use Rattle.std.specs.Prelude.{ℕ, ◌+◌, if◌then◌else◌, List, [], ◌∷◌}
+use Rattle.std.specs.Prelude.{ℕ, ◌+◌, if◌then◌else◌, Bool, false, List, [], ◌∷◌}
 use Rattle.spec_calculus.specs.Syntax.{Protocol}
 use Rattle.spec_terms.specs.Term.{Term}
-use Rattle.spec_certificate_text.specs.Terms.{Code, Syntax, Count, Open, Mode, Begins, InWord, InDigits, AtBracket, Ended, Reading, Step, Goes, Ends, Fault}
+use Rattle.spec_certificate_text.specs.Terms.{Code, Syntax, Count, Open, Mode, Begins, InWord, InDigits, AtBracket, InBound, Ended, Reading, Step, Goes, Ends, Fault}
 use Rattle.spec_certificate_text.specs.Steps.{is_deep, step}
 
 -- what came of reading bytes: a term, with the place behind it and what stands from there on; or a refusal
@@ -31,13 +31,18 @@ at_end at heads from Begins = cut_before at heads
 at_end at heads from (InWord word) = cut_off at heads from
 at_end at heads from (InDigits word digits) = cut_off at heads from
 at_end at heads from AtBracket = cut_off at heads from
+at_end at heads from (InBound digits) = cut_off at heads from
 at_end at heads from (Ended t) = cut_off at heads from
 
--- reading goes on from this place
-abbrev pub read_on : Protocol → List ℕ → ℕ → Reading → Read
-read_on P [] at r = at_end at r.heads r.from r.mode
-read_on P (b ∷ bytes) at r = followed (read_on P bytes (at + 1)) at (b ∷ bytes) (step P at r b)
+-- reading goes on from this place, in a constraint or in a fact
+abbrev pub read_on : Bool → Protocol → List ℕ → ℕ → Reading → Read
+read_on binds P [] at r = at_end at r.heads r.from r.mode
+read_on binds P (b ∷ bytes) at r = followed (read_on binds P bytes (at + 1)) at (b ∷ bytes) (step binds P at r b)
 
--- the term that the bytes begin with, the first of which stands at the place: another byte has to stand behind it
+-- the term, or side of a constraint, that the bytes begin with, the first of which stands at the place: another byte has to stand behind it
+abbrev pub read_tree : Bool → Protocol → List ℕ → ℕ → Read
+read_tree binds P bytes at = read_on binds P bytes at record { heads = []; mode = Begins; from = at }
+
+-- a term of a fact
 abbrev pub read_term : Protocol → List ℕ → ℕ → Read
-read_term P bytes at = read_on P bytes at record { heads = []; mode = Begins; from = at }
+read_term P bytes at = read_tree false P bytes at

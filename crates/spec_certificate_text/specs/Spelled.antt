@@ -1,5 +1,5 @@
 -- What loose trees of the grammar are: their words, their digits, and what may stand behind a word alone.
-use Rattle.std.specs.Prelude.{◌≡◌, ℕ, ◌==◌, ◌||◌, Bool, true, false, List, [], ◌∷◌}
+use Rattle.std.specs.Prelude.{◌≡◌, ℕ, ◌≤◌, ◌⊎◌, ◌==◌, ◌||◌, Bool, true, false, List, [], ◌∷◌, length}
 use Rattle.std.specs.Char.{is_ascii_digit}
 use Rattle.std.specs.List.{list_all}
 use Rattle.spec_trees.specs.Tree.{Leaf, Node, none, more}
@@ -15,16 +15,23 @@ pub record IsWord (word : List ℕ) : Type 0 where
 abbrev pub AreDigits : List ℕ → Type 0
 AreDigits digits = list_all is_ascii_digit digits ≡ true
 
+-- `?` and digits, one at least: a bound variable's
+pub record IsBoundWord (word : List ℕ) : Type 0 where
+  pub digits : List ℕ
+  pub some : 1 ≤ length digits
+  pub all : AreDigits digits
+  pub is : word ≡ 63 ∷ digits
+
 abbrev pub IsHead : Head → Type 0
 IsHead (Applied word) = IsWord word
 IsHead Tupled = Unit {0}
 IsHead (Made word digits) = IsWord word × AreDigits digits
 IsHead Attackers = Unit {0}
 
--- its words are words and its digits digits
+-- its words are words, of bound variables or others, and its digits digits
 abbrev mutual
   pub IsLoose : Loose → Type 0
-  IsLoose (Leaf word) = IsWord word
+  IsLoose (Leaf word) = IsWord word ⊎ IsBoundWord word
   IsLoose (Node head arguments) = IsHead head × AreLoose arguments
 
   pub AreLoose : LooseRow → Type 0

@@ -8,8 +8,10 @@ use Rattle.spec_protocol_tokens.specs.Bytes.{begins_word, is_in_word}
 use Rattle.spec_protocol_scope.specs.Names.{is_variable}
 use Rattle.spec_terms.specs.Term.{Sym, Tuple, Point, Attacker, Term}
 use Rattle.spec_run_text.specs.Reading.{numeral}
+use Rattle.spec_certificate_text.specs.Sides.{first_bound}
+use Rattle.spec_certificate_text.specs.Spelled.{goes_on}
 use Rattle.spec_certificate_text.specs.Names.{Named, symbol_called, name_called}
-use Rattle.spec_certificate_text.specs.Terms.{Syntax, Number, Symbol, Arity, Count, Open, Mode, Begins, InWord, InDigits, AtBracket, Ended, Reading, Step, Goes, Ends, Fault}
+use Rattle.spec_certificate_text.specs.Terms.{Syntax, Number, Symbol, Arity, Count, Open, Mode, Begins, InWord, InDigits, AtBracket, InBound, Ended, Reading, Step, Goes, Ends, Fault}
 
 -- whether a term that begins here would be too deep: so many are open
 abbrev pub is_deep : List Open → Bool
@@ -75,20 +77,25 @@ after_term at t (o ∷ heads) from b =
     then closed o heads (o.arguments ++ t ∷ [])
     else Fault at Syntax)
 
+-- a bound variable begins: it may stand in a constraint alone
+abbrev pub begin_bound : Bool → ℕ → List Open → Step
+begin_bound binds at heads = if binds then unless_deep heads at (goes heads (InBound []) at) else Fault at Symbol
+
 -- a term begins with this byte
-abbrev pub begin_term : ℕ → List Open → ℕ → Step
-begin_term at heads b =
+abbrev pub begin_term : Bool → ℕ → List Open → ℕ → Step
+begin_term binds at heads b =
     if begins_word b then goes heads (InWord (b ∷ [])) at
     else (if b == 40 then unless_deep heads at (opened heads record { symbol = Tuple 0; arity = 0 } at)
     else (if b == 64 then unless_deep heads at (goes heads AtBracket at)
-    else Fault at Syntax))
+    else (if b == 63 then begin_bound binds at heads
+    else Fault at Syntax)))
 
 -- where a term may begin: within a symbol that is too deep itself, none may
-abbrev pub at_begin : ℕ → List Open → ℕ → Step
-at_begin at [] b = begin_term at [] b
-at_begin at (o ∷ heads) b =
+abbrev pub at_begin : Bool → ℕ → List Open → ℕ → Step
+at_begin binds at [] b = begin_term binds at [] b
+at_begin binds at (o ∷ heads) b =
     if (b == 93) && may_be_empty o.symbol o.arguments then closed o heads []
-    else unless_deep heads o.place (begin_term at (o ∷ heads) b)
+    else unless_deep heads o.place (begin_term binds at (o ∷ heads) b)
 
 -- a variable ended with these digits, which are this number, if one
 abbrev pub after_variable : ℕ → List Open → ℕ → List ℕ → Option ℕ → ℕ → Step
@@ -141,13 +148,28 @@ in_digits P at heads from word digits b =
 abbrev pub at_bracket : ℕ → List Open → ℕ → ℕ → Step
 at_bracket at heads from b = if b == 91 then opened heads record { symbol = Attacker; arity = 1 } from else Fault at Syntax
 
-abbrev pub step_in : Protocol → ℕ → List Open → ℕ → Mode → ℕ → Step
-step_in P at heads from Begins b = at_begin at heads b
-step_in P at heads from (InWord word) b = in_word P at heads from word b
-step_in P at heads from (InDigits word digits) b = in_digits P at heads from word digits b
-step_in P at heads from AtBracket b = at_bracket at heads from b
-step_in P at heads from (Ended t) b = after_term at t heads from b
+-- a bound variable ended with these digits, which are this number, if one: no byte of a word, `(` or `@` may stand behind it
+abbrev pub after_bound : ℕ → List Open → ℕ → List ℕ → Option ℕ → ℕ → Step
+after_bound at heads from digits None b = Fault (at - length digits) Number
+after_bound at heads from digits (Some i) b = if goes_on b then Fault at Syntax else after_term at (Leaf (first_bound + i)) heads from b
 
--- what the byte b does that stands at the place
-abbrev pub step : Protocol → ℕ → Reading → ℕ → Step
-step P at r b = step_in P at r.heads r.from r.mode b
+-- digits behind a `?` ended
+abbrev pub bound_ended : ℕ → List Open → ℕ → List ℕ → ℕ → Step
+bound_ended at heads from [] b = Fault at Syntax
+bound_ended at heads from (d ∷ ds) b = after_bound at heads from (d ∷ ds) (numeral (d ∷ ds)) b
+
+abbrev pub in_bound : ℕ → List Open → ℕ → List ℕ → ℕ → Step
+in_bound at heads from digits b =
+    if is_ascii_digit b then goes heads (InBound (digits ++ b ∷ [])) from else bound_ended at heads from digits b
+
+abbrev pub step_in : Bool → Protocol → ℕ → List Open → ℕ → Mode → ℕ → Step
+step_in binds P at heads from Begins b = at_begin binds at heads b
+step_in binds P at heads from (InWord word) b = in_word P at heads from word b
+step_in binds P at heads from (InDigits word digits) b = in_digits P at heads from word digits b
+step_in binds P at heads from AtBracket b = at_bracket at heads from b
+step_in binds P at heads from (InBound digits) b = in_bound at heads from digits b
+step_in binds P at heads from (Ended t) b = after_term at t heads from b
+
+-- what the byte b does that stands at the place, in a constraint or in a fact
+abbrev pub step : Bool → Protocol → ℕ → Reading → ℕ → Step
+step binds P at r b = step_in binds P at r.heads r.from r.mode b

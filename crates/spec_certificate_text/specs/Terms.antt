@@ -29,6 +29,7 @@ pub data Mode : Type 0 where
   InWord : (word : List ℕ) → Mode
   InDigits : (word digits : List ℕ) → Mode  -- a word, `@` and digits
   AtBracket : Mode  -- the `@` of an attacker's name
+  InBound : (digits : List ℕ) → Mode  -- the `?` of a bound variable, and digits
   Ended : (term : Term) → Mode  -- all of it
 
 -- the symbols whose arguments are being read, the innermost first; the innermost term; and where its word began
@@ -66,6 +67,7 @@ mode_text P Begins rest = rest
 mode_text P (InWord word) rest = word ++ rest
 mode_text P (InDigits word digits) rest = word ++ (64 ∷ (digits ++ rest))
 mode_text P AtBracket rest = 64 ∷ rest
+mode_text P (InBound digits) rest = 63 ∷ (digits ++ rest)
 mode_text P (Ended t) rest = term_text P t rest
 
 abbrev pub so_far : Protocol → Reading → List ℕ → List ℕ

@@ -1,12 +1,15 @@
--- The texts of terms, facts, clauses and certificates, each with what follows it.
+-- The texts of terms, facts, constraints, clauses and certificates, each with what follows it.
 use Rattle.std.specs.Prelude.{ℕ, zero, suc, List, [], ◌∷◌, ◌++◌, codes}
 use Rattle.std.specs.Fmt.{decimal}
+use Rattle.spec_trees.specs.Tree.{trees}
 use Rattle.spec_calculus.specs.Syntax.{Protocol}
 use Rattle.spec_terms.specs.Term.{Term}
+use Rattle.spec_clauses.specs.Diff.{Diff}
 use Rattle.spec_clauses.specs.Fact.{Fact, Clause}
 use Rattle.spec_certificates.specs.Certificate.{Certificate}
 use Rattle.spec_certificate_text.specs.Loose.{onto, row}
-use Rattle.spec_certificate_text.specs.Written.{written, LooseFact, written_fact}
+use Rattle.spec_certificate_text.specs.Sides.{SidesOf, spelled_diff}
+use Rattle.spec_certificate_text.specs.Written.{written, written_row, LooseFact, written_fact}
 
 abbrev pub term_text : Protocol → Term → List ℕ → List ℕ
 term_text P t rest = onto (written P t) rest
@@ -23,19 +26,36 @@ fact_onto f rest = f.predicate ++ phase_text f.phase (40 ∷ row f.arguments (41
 abbrev pub fact_text : Protocol → Fact Term → List ℕ → List ℕ
 fact_text P f rest = fact_onto (written_fact P f) rest
 
--- hypotheses behind the first, a comma and a space before each, and a space behind the last
-abbrev pub later_hypotheses : Protocol → List (Fact Term) → List ℕ → List ℕ
-later_hypotheses P [] rest = 32 ∷ rest
-later_hypotheses P (h ∷ hs) rest = 44 ∷ 32 ∷ fact_text P h (later_hypotheses P hs rest)
+-- a constraint: its left sides and its right sides, a comma between each two
+abbrev pub sides_text : Protocol → SidesOf Term → List ℕ → List ℕ
+sides_text P s rest = codes "diff(" ++ row (written_row P (trees s.left)) (59 ∷ row (written_row P (trees s.right)) (41 ∷ rest))
 
--- hypotheses; of none, nothing
-abbrev pub hypotheses_text : Protocol → List (Fact Term) → List ℕ → List ℕ
-hypotheses_text P [] rest = rest
-hypotheses_text P (h ∷ hs) rest = fact_text P h (later_hypotheses P hs rest)
+abbrev pub diff_text : Protocol → Diff → List ℕ → List ℕ
+diff_text P d rest = sides_text P (spelled_diff d) rest
 
--- a clause: its hypotheses, `=> `, and its conclusion; constraints aren't spelled yet
+-- constraints behind a hypothesis or a constraint, a comma and a space before each, and a space behind the last
+abbrev pub later_diffs : Protocol → List Diff → List ℕ → List ℕ
+later_diffs P [] rest = 32 ∷ rest
+later_diffs P (d ∷ ds) rest = 44 ∷ 32 ∷ diff_text P d (later_diffs P ds rest)
+
+-- constraints with no hypotheses before them; of none, nothing
+abbrev pub diffs_text : Protocol → List Diff → List ℕ → List ℕ
+diffs_text P [] rest = rest
+diffs_text P (d ∷ ds) rest = diff_text P d (later_diffs P ds rest)
+
+-- hypotheses behind the first, a comma and a space before each, and then the constraints
+abbrev pub later_hypotheses : Protocol → List (Fact Term) → List Diff → List ℕ → List ℕ
+later_hypotheses P [] ds rest = later_diffs P ds rest
+later_hypotheses P (h ∷ hs) ds rest = 44 ∷ 32 ∷ fact_text P h (later_hypotheses P hs ds rest)
+
+-- hypotheses, and then constraints
+abbrev pub hypotheses_text : Protocol → List (Fact Term) → List Diff → List ℕ → List ℕ
+hypotheses_text P [] ds rest = diffs_text P ds rest
+hypotheses_text P (h ∷ hs) ds rest = fact_text P h (later_hypotheses P hs ds rest)
+
+-- a clause: its hypotheses, its constraints, `=> `, and its conclusion
 abbrev pub clause_text : Protocol → Clause Term → List ℕ → List ℕ
-clause_text P c rest = hypotheses_text P c.hypotheses (61 ∷ 62 ∷ 32 ∷ fact_text P c.conclusion rest)
+clause_text P c rest = hypotheses_text P c.hypotheses c.diffs (61 ∷ 62 ∷ 32 ∷ fact_text P c.conclusion rest)
 
 -- `c ` and a clause on a line of its own, for each clause
 abbrev pub clause_lines : Protocol → List (Clause Term) → List ℕ → List ℕ

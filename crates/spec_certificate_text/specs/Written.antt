@@ -1,11 +1,12 @@
--- Terms and facts, written as loose trees with the words of a protocol.
-use Rattle.std.specs.Prelude.{ℕ, List, ◌∷◌, codes}
+-- Terms, facts and constraints, written as loose trees with the words of a protocol.
+use Rattle.std.specs.Prelude.{ℕ, List, codes}
 use Rattle.std.specs.Fmt.{decimal}
 use Rattle.spec_trees.specs.Tree.{Trees, Leaf, Node, none, more, trees}
 use Rattle.spec_calculus.specs.Syntax.{Declared, Protocol}
 use Rattle.spec_terms.specs.Term.{Sym, Ctor, Data, Tuple, Free, Point, Attacker, Term}
 use Rattle.spec_clauses.specs.Fact.{Fact, Att, Mess, Tab, Ev, Mev, Bad}
 use Rattle.spec_certificate_text.specs.Loose.{Loose, LooseRow, Applied, Tupled, Made, Attackers}
+use Rattle.spec_certificate_text.specs.Sides.{variable_word}
 use Rattle.spec_certificate_text.specs.Words.{declared_word, symbol_word}
 
 -- a word over arguments: without any it stands alone
@@ -22,10 +23,10 @@ headed P (Free name) arguments = applied (symbol_word P (Free name)) arguments
 headed P (Point point) arguments = Node (Made (symbol_word P (Point point)) (decimal point)) arguments
 headed P Attacker arguments = Node Attackers arguments
 
--- a term: the variable x is `v` and the digits of x
+-- a term
 abbrev mutual
   pub written : Protocol → Term → Loose
-  written P (Leaf x) = Leaf (118 ∷ decimal x)
+  written P (Leaf x) = Leaf (variable_word x)
   written P (Node f arguments) = headed P f (written_row P arguments)
 
   pub written_row : Protocol → Trees ℕ Sym → LooseRow

@@ -39,7 +39,7 @@ ghost use Rattle.spec_certificate_text.specs.Outcomes.{Found, Faulty};
 ghost use Rattle.spec_certificate_text.specs.Facts.{read_hypothesis, read_conclusion};
 ghost use Rattle.spec_certificate_text.specs.Clauses.{read_clause};
 ghost use Rattle.spec_certificate_text.specs.Walks as walks;
-ghost use Rattle.spec_certificate_text.specs.Walks.{spelled_term, no_counts, with_state};
+ghost use Rattle.spec_certificate_text.specs.Walks.{spelled_term, spelled_side, no_counts, with_state};
 ghost use Rattle.spec_certificate_text.specs.Certificates.{read_certificate};
 ghost use Rattle.spec_certificate_text.specs.Readable.{IsHypothesisOf, IsConclusionOf, IsReadable};
 ghost use Rattle.spec_certificate_text.specs.Readable.{IsReadableCertificate};
@@ -227,7 +227,7 @@ pub fn certificates_are_read()
 /// A clause is read as it is on a walk that keeps its state, be that a number.
 pub fn clauses_are_read_on_walks()
     ensures { (P : Protocol) (state : ℕ) (bytes : List ℕ) (at : ℕ) →
-        walks.read_clause (spelled_term P) no_counts P state bytes at ≡
+        walks.read_clause (spelled_term P) (spelled_side P) no_counts P state bytes at ≡
         with_state state (read_clause P bytes at) }
 {}
 

@@ -1,34 +1,34 @@
--- The worked example of tables and constraints: its translation, and what pairs give where the else branch has its constraint.
-use Rattle.std.proofs.Common.{◌≡◌, ℕ, zero, suc, true, false, Some, None, [], ◌∷◌, refl, ap, sym, inr, arith}
+-- The worked example of tables and constraints: its translation, what its pairs give, and what is ruled of its certificate.
+use Rattle.std.proofs.Common.{◌≡◌, ℕ, zero, suc, true, false, Some, None, [], ◌∷◌, ◌++◌, refl, ap, sym, subst, inr, arith}
 use Rattle.std.specs.List.{AllByRecursion, cons_option}
-use Rattle.spec_trees.specs.Tree.{Leaf, after}
-use Rattle.spec_calculus.specs.Syntax.{Variable, Bind}
+use Rattle.spec_trees.specs.Tree.{Leaf, node, after}
+use Rattle.spec_calculus.specs.Syntax.{Variable, Bind, Equal}
+use Rattle.spec_calculus.specs.Syntax as calculus
 use Rattle.spec_calculus.specs.Matching.{rules_of}
 use Rattle.spec_calculus.specs.Refusals.{IsUniform}
 use Rattle.spec_well_formed.specs.Rules.{IsProperRule}
-use Rattle.spec_terms.specs.Term.{Subst}
-use Rattle.spec_clauses.specs.Diff.{Own}
+use Rattle.spec_terms.specs.Term.{Free, Term, Subst}
+use Rattle.spec_clauses.specs.Diff.{Own, Side}
 use Rattle.spec_clauses.specs.DiffDecision.{can_be_equal}
-use Rattle.spec_clauses.specs.Fact.{Att, Tab, fact_under}
+use Rattle.spec_clauses.specs.Fact.{Att, Tab, Clause, fact_under}
 use Rattle.spec_clauses.specs.Norm.{norm, norms}
 use Rattle.spec_clauses.specs.Selection.{Selection}
 use Rattle.spec_clauses.specs.Resolvents.{IsRawResolvent}
 use Rattle.spec_clauses.specs.Inclusion.{here}
-use Rattle.spec_derivations.specs.Closed.{Closes}
 use Rattle.spec_clauses.proofs.NormAnswers.{norm-none}
 use Rattle.spec_clauses.proofs.ConstraintExamples.{can, may_be_met, by_tests, and_true_end}
 use Rattle.spec_translation.specs.Visit.{Visit, first_visit}
 use Rattle.spec_translation.specs.Choice.{Choice, choice_under, IsUnified, ruled_choice, ChoiceGoesOn, EntryGoesOn}
 use Rattle.spec_translation.specs.Course.{Done}
 use Rattle.spec_translation.specs.Translation.{Clauses, IsTranslation}
-use Rattle.spec_translation.specs.Satisfied.{AreSatisfied}
-use Rattle.spec_certificates.specs.Shown.{IsProper}
+use Rattle.spec_translation.proofs.OneTranslation.{one_translation}
+use Rattle.spec_certificates.specs.Shown.{IsProper, IsShown}
 use Rattle.spec_certificates.proofs.Announced.{knows_channel, makes_names, listens, sends, listening, echo, channel_listening, names_listening, sends_listening}
 use Rattle.spec_certificates.specs.Certificate.{IsInShape, numbered_from, pairs_of}
-use Rattle.spec_certificates.specs.Ruling.{Accepted, Rest, Cover, Closures, Goals, NoneLeft, bad_ones}
-use Rattle.spec_certificates.specs.Remembering.{kept_secret, is_channel, remembering, entry, secret, other_than, entered, always_leaks, translated, constrained, leaks, entry_side, never, asks, seven, seven_rows}
-use Rattle.spec_certificates.proofs.Accepting.{covers_close}
-use Rattle.spec_certificates.proofs.Ruled.{covered, AreCovered, IsIdleWith, idle_rows}
+use Rattle.spec_certificates.specs.Ruling.{Accepted, Rest, Cover, Obliged, Closures, Goals, NoneLeft, bad_ones, IsRuled}
+use Rattle.spec_certificates.specs.Remembering.{kept_secret, remembering, entry, secret, other_than, entered, leaks, asks, seven, seven_rows}
+use Rattle.spec_certificates.proofs.Accepting.{accepted_shows}
+use Rattle.spec_certificates.proofs.Ruled.{shaped, covered, AreCovered, IsIdleWith, idle_rows}
 
 -- what is said of the protocol and the query
 proper_rules : (d : ℕ) → AllByRecursion IsProperRule (rules_of remembering d)
@@ -66,13 +66,13 @@ by_c zero = entry
 by_c (suc n) = Leaf (suc n)
 
 abbrev comparison : Choice
-comparison = ruled_choice remembering has_entry is_channel (Leaf (Leaf (Variable 1))) 1 (record { base = 1; first = 1 })
+comparison = ruled_choice remembering has_entry (Leaf (Equal (Leaf (calculus.Free 1)))) (Leaf (Leaf (Variable 1))) 1 (record { base = 1; first = 1 })
 
 comparison_most : (r : Subst) → IsUnified (choice_under r comparison) → (n : ℕ) → after r by_c n ≡ r n
 comparison_most r e zero = sym e.1
 comparison_most r e (suc n) = refl
 
-compares : ChoiceGoesOn remembering has_entry is_channel (Leaf (Leaf (Variable 1))) (Some is_c)
+compares : ChoiceGoesOn remembering has_entry (Leaf (Equal (Leaf (calculus.Free 1)))) (Leaf (Leaf (Variable 1))) (Some is_c)
 compares = record {
   base = 1;
   at = record { base = 1; first = 1 };
@@ -82,33 +82,33 @@ compares = record {
   goes_on = (by_c, record { accepted = (refl, refl); most = λ r e. (r, comparison_most r e) }, refl);
 }
 
--- With its constraint the clause of the else branch is its own norm: the constraint can be equal, and may be met.
+-- The clause of the else branch is its own norm: the constraint can be equal, and may be met.
 leaks_own : norm leaks ≡ Some leaks
 leaks_own = by_tests (Tab 1 (Leaf 0 ∷ []) ∷ []) (other_than (Leaf (Own 0))) (Att 0 secret) false true
     (may_be_met (other_than (Leaf (Own 0))) (λ h. let e = h.1 in cc))
     (and_true_end (can_be_equal (other_than (Leaf (Own 0)))) (can (other_than (Leaf (Own 0))) ((λ k. entry), refl)))
 
-pub leaks_norms : norms constrained ≡ leaks ∷ []
+leaks_norms : norms leaks ≡ leaks ∷ []
 leaks_norms = ap (λ o. cons_option o []) leaks_own
 
-pub remembering_translated : IsTranslation remembering kept_secret (Clauses translated)
+pub remembering_translated : IsTranslation remembering kept_secret (Clauses seven)
 remembering_translated = (
-  Done (entered ∷ always_leaks ∷ []) 65527,
+  Done (entered ∷ leaks ∷ []) 65527,
   (
     Done (entered ∷ []) 65533,
     (Done [] 65533, refl, refl),
     (
-      Done (always_leaks ∷ []) 65527,
+      Done (leaks ∷ []) 65527,
       (
         false,
         Some has_entry,
         takes_entry,
         (
-          Done (always_leaks ∷ []) 65528,
+          Done (leaks ∷ []) 65528,
           (
             Some is_c ∷ [],
             (Some is_c, [], compares, refl, refl),
-            (Done [] 65530, refl, (Done (always_leaks ∷ []) 65528, (Done [] 65528, refl, refl), refl)),
+            (Done [] 65530, refl, (Done (leaks ∷ []) 65528, (Done [] 65528, refl, ap (λ cs. Done (cs ++ []) 65528) (sym leaks_norms)), refl)),
           ),
           (Done [] 65527, refl, refl),
         ),
@@ -119,7 +119,7 @@ remembering_translated = (
   refl,
 )
 
--- What the pairs give with the constraint: nothing, a tautology, and from the entry and the else branch `diff(c;c) => att(s)`, which is never met.
+-- What the pairs give: nothing, a tautology, and from the entry and the else branch `diff(c;c) => att(s)`, which is never met.
 abbrev taking : Selection
 taking = record { index = 0; fact = Tab 1 (Leaf 0 ∷ []); others = [] }
 
@@ -150,6 +150,12 @@ entered_listening = record { offset = 0; apart = (tt, tt); unified = λ s e. cc 
 entered_asking : IsRawResolvent entered asks asking None
 entered_asking = record { offset = 0; apart = (tt, tt); unified = λ s e. cc }
 
+abbrev entry_side : Side
+entry_side = node (Free 1) []
+
+abbrev never : Clause Term
+never = record { hypotheses = []; diffs = other_than entry_side ∷ []; conclusion = Att 0 secret }
+
 entered_most : (r : Subst) → fact_under r (Tab 1 (entry ∷ [])) ≡ fact_under r (Tab 1 (Leaf 0 ∷ [])) → (n : ℕ) → after r by_c n ≡ r n
 entered_most r e zero = let same = e in cc
 entered_most r e (suc n) = refl
@@ -157,7 +163,7 @@ entered_most r e (suc n) = refl
 entered_taking : IsRawResolvent entered leaks taking (Some never)
 entered_taking = record { offset = 0; apart = (tt, tt); unified = (by_c, record { accepted = refl; most = λ r e. (r, entered_most r e) }, refl) }
 
-pub says_nothing : norms never ≡ []
+says_nothing : norms never ≡ []
 says_nothing = ap (λ o. cons_option o []) ((norm-none never).1 (inr (other_than entry_side, ([], here), (Leaf, refl))))
 
 all_idle : AllByRecursion (IsIdleWith (numbered_from 1 seven)) (numbered_from 1 seven)
@@ -221,10 +227,22 @@ all_covered = (
   ),
 )
 
--- So its clauses close themselves, and none concludes `bad`.
-pub remembering_closes : Closes seven seven × AreSatisfied remembering kept_secret seven
-remembering_closes =
+-- So the certificate is accepted.
+pub remembering_accepted : IsRuled remembering kept_secret seven_rows Accepted
+remembering_accepted =
     let all = numbered_from 1 seven in
     let last : Rest = λ rows. Goals remembering kept_secret (bad_ones all) (λ goals. NoneLeft seven_rows rows goals) [] in
     let closed : Closures seven (pairs_of all all) last [] Accepted = idle_rows seven last [] Accepted all [] all all_idle refl in
-    covers_close remembering kept_secret seven_rows seven all_shaped (covered seven (Closures seven (pairs_of all all) last) Accepted Cover all seven_rows.rows [] all_covered closed)
+    shaped kept_secret (Obliged remembering kept_secret seven_rows) Accepted all all_shaped (inr (
+      seven,
+      remembering_translated,
+      covered seven (Closures seven (pairs_of all all) last) Accepted Cover all seven_rows.rows [] all_covered closed,
+    ))
+
+-- Its clauses close the translation: the one that it has.
+pub remembering_shown : IsShown remembering kept_secret seven seven
+remembering_shown =
+    let (given, shown) = accepted_shows remembering kept_secret seven_rows remembering_accepted in
+    let same = one_translation remembering kept_secret (Clauses given) (Clauses seven) shown.translation remembering_translated in
+    let both : given ≡ seven = cc in
+    subst (λ g. IsShown remembering kept_secret g seven) both shown

@@ -1,14 +1,12 @@
--- A worked example of tables and constraints: the one entry is c, and the secret is sent where an entry is another term. No other is there.
--- With the constraint of its choice the clause of the else branch gives nothing with the entry, since it is never met.
+-- A worked example of tables and constraints: the one entry is c, and the secret is sent where an entry is another term. No other is there,
+-- and what the entry and the else branch give is a constraint that is never met.
 use Rattle.std.specs.Prelude.{true, false, None, List, [], ◌∷◌, ◌++◌}
 use Rattle.spec_trees.specs.Tree.{Leaf, node}
-use Rattle.spec_calculus.specs.Syntax.{Variable, Bind, Equal, Pattern, Expression, Nil, Output, Parallel, Let, Insert, Get, Query, Secret, Protocol}
+use Rattle.spec_calculus.specs.Syntax.{Variable, Bind, Equal, Nil, Output, Parallel, Let, Insert, Get, Query, Secret, Protocol}
 use Rattle.spec_calculus.specs.Syntax as calculus
 use Rattle.spec_terms.specs.Term.{Free, Term}
 use Rattle.spec_clauses.specs.Diff.{Own, Side, Diff}
 use Rattle.spec_clauses.specs.Fact.{Att, Tab, Bad, Clause}
-use Rattle.spec_translation.specs.Conversion.{Scope}
-use Rattle.spec_translation.specs.Otherwise.{choice_diffs}
 use Rattle.spec_certificates.specs.Announcing.{clause, attacker_clauses}
 use Rattle.spec_certificates.specs.Certificate.{Certificate}
 
@@ -16,12 +14,6 @@ use Rattle.spec_certificates.specs.Certificate.{Certificate}
 -- process insert t(c) | get t(x) in if x = c then 0 else out(c,s)
 abbrev pub kept_secret : Query
 kept_secret = Secret (Leaf (calculus.Free 2)) 0
-
-abbrev pub is_channel : Pattern
-is_channel = Leaf (Equal (Leaf (calculus.Free 1)))
-
-abbrev pub taken : Expression
-taken = Leaf (Leaf (Variable 1))
 
 abbrev pub remembering : Protocol
 remembering = record {
@@ -33,7 +25,7 @@ remembering = record {
   queries = kept_secret ∷ [];
   main = Parallel
       (Insert 1 (Leaf (calculus.Free 1) ∷ []) Nil)
-      (Get 1 (Leaf (Bind 1) ∷ []) None (Let is_channel taken Nil (Output (Leaf (calculus.Free 1)) (Leaf (calculus.Free 2)) Nil)) Nil);
+      (Get 1 (Leaf (Bind 1) ∷ []) None (Let (Leaf (Equal (Leaf (calculus.Free 1)))) (Leaf (Leaf (Variable 1))) Nil (Output (Leaf (calculus.Free 1)) (Leaf (calculus.Free 2)) Nil)) Nil);
 }
 
 -- c and s, as terms, and c in a constraint
@@ -46,38 +38,17 @@ secret = node (Free 2) []
 abbrev pub other_than : Side → Diff
 other_than t = record { left = t ∷ []; right = node (Free 1) [] ∷ [] }
 
--- `=> tab(t(c))`, `tab(t(v0)) => att(s)`, `att(s) => bad()`
+-- `=> tab(t(c))`, `tab(t(v0)), diff(v0;c) => att(s)`, `att(s) => bad()`
 abbrev pub entered : Clause Term
 entered = clause [] (Tab 1 (entry ∷ []))
-
-abbrev pub always_leaks : Clause Term
-always_leaks = clause (Tab 1 (Leaf 0 ∷ []) ∷ []) (Att 0 secret)
-
-abbrev pub asks : Clause Term
-asks = clause (Att 0 secret ∷ []) (Bad [])
-
--- the clauses of the translation, which leaves the constraint out
-abbrev pub translated : List (Clause Term)
-translated = attacker_clauses ++ entered ∷ always_leaks ∷ asks ∷ []
-
--- `tab(t(v0)), diff(v0;c) => att(s)`: the raw clause of the else branch with the constraint of its choice, where x stands for v0
-abbrev pub its_scope : Scope
-its_scope = record { name = Variable 1; term = Leaf 0 } ∷ []
-
-abbrev pub constrained : Clause Term
-constrained = record { hypotheses = Tab 1 (Leaf 0 ∷ []) ∷ []; diffs = choice_diffs remembering its_scope is_channel taken; conclusion = Att 0 secret }
 
 abbrev pub leaks : Clause Term
 leaks = record { hypotheses = Tab 1 (Leaf 0 ∷ []) ∷ []; diffs = other_than (Leaf (Own 0)) ∷ []; conclusion = Att 0 secret }
 
--- `diff(c;c) => att(s)`: what the entry gives with it
-abbrev pub entry_side : Side
-entry_side = node (Free 1) []
+abbrev pub asks : Clause Term
+asks = clause (Att 0 secret ∷ []) (Bad [])
 
-abbrev pub never : Clause Term
-never = record { hypotheses = []; diffs = other_than entry_side ∷ []; conclusion = Att 0 secret }
-
--- the clauses with it, which are closed as they stand
+-- the clauses of the translation, which are closed as they stand
 abbrev pub seven : List (Clause Term)
 seven = attacker_clauses ++ entered ∷ leaks ∷ asks ∷ []
 

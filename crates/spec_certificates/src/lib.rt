@@ -8,10 +8,6 @@ ghost use Rattle.spec_calculus.specs.Runs.{Configuration, run};
 ghost use Rattle.spec_calculus.specs.Secrecy.{IsViolated, Holds};
 ghost use Rattle.spec_terms.specs.Term.{Term};
 ghost use Rattle.spec_clauses.specs.Fact.{Clause};
-ghost use Rattle.spec_clauses.specs.Norm.{norms};
-ghost use Rattle.spec_derivations.specs.Closed.{Closes};
-ghost use Rattle.spec_translation.specs.Satisfied.{AreSatisfied};
-ghost use Rattle.spec_translation.specs.Translation.{Clauses, IsTranslation};
 ghost use Rattle.spec_certificates.specs.Shown.{IsProper, IsShown};
 ghost use Rattle.spec_certificates.specs.Announcing.{announced, reversed, announcing, one_copy, performed_by};
 ghost use Rattle.spec_certificates.specs.Announcing.{eight_clauses, nine_clauses};
@@ -19,8 +15,7 @@ ghost use Rattle.spec_certificates.specs.Certificate.{Certificate};
 ghost use Rattle.spec_certificates.specs.Ruling.{Ruling, Accepted, Closure, Goal, IsRuled};
 ghost use Rattle.spec_certificates.specs.Example.{kept_key, encrypting, one_answer, told, eight, eight_rows};
 ghost use Rattle.spec_certificates.specs.Example.{nine_rows, without_row, without_goal};
-ghost use Rattle.spec_certificates.specs.Remembering.{kept_secret, remembering, translated};
-ghost use Rattle.spec_certificates.specs.Remembering.{constrained, leaks, never, seven};
+ghost use Rattle.spec_certificates.specs.Remembering.{kept_secret, remembering, seven, seven_rows};
 
 /// One thing at most is ruled of a certificate: that it is accepted, or the first obligation that fails.
 pub fn one_ruling()
@@ -58,13 +53,9 @@ pub fn names_are_certified()
 {}
 
 /// A worked example, a secret that an else branch sends: the branch runs where an entry of a table is not c, and the one entry is c.
-/// Its translation lets the branch always run. With the constraint of its choice the clause of the branch has one norm, what the
-/// entry gives with that has none, and so the clauses with it are closed, and none of them concludes `bad`.
-pub fn an_else_branch_is_closed()
+/// Its certificate is accepted, since the clause of the branch has a constraint that the entry never meets.
+pub fn an_else_branch_is_certified()
     ensures proper { IsProper remembering kept_secret }
-    ensures translated { IsTranslation remembering kept_secret (Clauses translated) }
-    ensures constrained { norms constrained ≡ leaks ∷ [] }
-    ensures never { norms never ≡ [] }
-    ensures closes { Closes seven seven }
-    ensures satisfied { AreSatisfied remembering kept_secret seven }
+    ensures accepted { IsRuled remembering kept_secret seven_rows Accepted }
+    ensures shown { IsShown remembering kept_secret seven seven }
 {}

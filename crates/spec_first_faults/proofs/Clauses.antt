@@ -4,52 +4,64 @@ use Rattle.std.specs.Char.{is_ascii_digit}
 use Rattle.spec_calculus.specs.Bounds.{most_clauses}
 use Rattle.spec_calculus.specs.Syntax.{Protocol}
 use Rattle.spec_terms.specs.Term.{Term}
-use Rattle.spec_clauses.specs.Fact.{Clause}
+use Rattle.spec_clauses.specs.Fact.{Fact, Clause}
 use Rattle.spec_certificates.specs.Certificate.{Certificate}
 use Rattle.spec_certificate_text.specs.OfProtocol.{HasNames}
 use Rattle.spec_certificate_text.specs.Terms.{Code, Syntax}
-use Rattle.spec_certificate_text.specs.Outcomes.{Found, Faulty, next, front, read_fixed, read_number, things}
-use Rattle.spec_certificate_text.specs.Facts.{read_hypothesis, read_conclusion}
-use Rattle.spec_certificate_text.specs.Clauses.{one_hypothesis, read_hypotheses, read_clause}
+use Rattle.spec_certificate_text.specs.Outcomes.{Outcome, Found, Faulty, next, front, read_fixed, read_number, things}
+use Rattle.spec_certificate_text.specs.Facts.{read_conclusion}
+use Rattle.spec_certificate_text.specs.Sides.{SpelledClause, meant_clause}
+use Rattle.spec_certificate_text.specs.Clauses.{Premises, read_premises, read_clause}
 use Rattle.spec_certificate_text.specs.Certificates.{clause_line, one_number, row_line, read_rows, certificate_end, read_certificate}
-use Rattle.spec_reading_faults.proofs.Parts.{things_local}
-use Rattle.spec_reading_faults.proofs.Certificates.{one_hypothesis-local, one_hypothesis-moves, numbers_local, row_line-moves}
+use Rattle.spec_reading_faults.proofs.Certificates.{numbers_local, row_line-moves}
 use Rattle.spec_certificate_faults.specs.Grammar.{EndsAt}
 use Rattle.spec_certificate_faults.specs.First.{Kind}
 use Rattle.spec_first_faults.specs.Kinds.{fixed, behind, TextOfMany, last, further, FaultAmong, in_last, in_one, later, many, at_most, row_of}
 use Rattle.spec_first_faults.specs.Numbers.{numbers}
-use Rattle.spec_first_faults.specs.Facts.{hypotheses, conclusions}
+use Rattle.spec_first_faults.specs.Facts.{conclusions}
 use Rattle.spec_first_faults.specs.Clauses.{premises, clauses, clause_lines, row_lines, rows_and_end, certificates}
-use Rattle.spec_first_faults.proofs.Tells.{Anything, Forms, Tells, mapped, mapped_tells, shorter, there_shorter}
+use Rattle.spec_first_faults.proofs.Tells.{Anything, Forms, Tells, mapped, mapped_tells, same_tells, shorter, there_shorter}
 use Rattle.spec_first_faults.proofs.Behind.{then_read, both_tell}
-use Rattle.spec_first_faults.proofs.OneOf.{IsToldBy, told_by_front, told_by_fixed, told_alone}
+use Rattle.spec_first_faults.proofs.OneOf.{IsToldBy, told_by_fixed, told_alone}
 use Rattle.spec_first_faults.proofs.Closed.{closed_by, closed_tells, behind_fixed, closed_thing}
 use Rattle.spec_first_faults.proofs.Many.{AreLines, MayFollow, lines_then, lines_tell, at_most-tells}
 use Rattle.spec_first_faults.proofs.Numbers.{numbers_tell}
 use Rattle.spec_first_faults.proofs.Rows.{separated, found_one, next_same, row_tells}
-use Rattle.spec_first_faults.proofs.Facts.{front_tells, hypotheses_tell, conclusions_tell, hypothesis_front}
+use Rattle.spec_first_faults.proofs.Facts.{conclusions_tell}
+use Rattle.spec_first_faults.proofs.Premises.{arrowed, premises_tell}
 
 -- Clauses.
 
-some_hypotheses-tell : (P : Protocol) → HasNames P → Tells ⊥ (row_of (hypotheses P) (codes ", ") (codes " => ")) Anything Anything (things (one_hypothesis P))
-some_hypotheses-tell P names =
-    row_tells (hypotheses P) Anything 44 (32 ∷ []) 32 (codes "=> ") (read_hypothesis P) (one_hypothesis P) (λ bytes at. refl) (things_local (one_hypothesis P) (one_hypothesis-local P) (one_hypothesis-moves P)) (hypotheses_tell P names)
-    record { apart = refl; comma = λ rest. tt; close = λ rest. tt }
+abbrev spelled : Premises → Fact Term → SpelledClause Term
+spelled ps c = record { hypotheses = ps.hypotheses; diffs = ps.diffs; conclusion = c }
 
-some_front : (P : Protocol) (bytes rest : List ℕ) → (row_of (hypotheses P) (codes ", ") (codes " => ")).Text bytes rest → (front bytes == 61) ≡ false
-some_front P bytes rest (last (mid, one, text)) = (hypothesis_front P).texts bytes mid one
-some_front P bytes rest (further inner (mid, one, text) more) = (hypothesis_front P).texts bytes mid one
+abbrev clause_of : Premises → Fact Term → Clause Term
+clause_of ps c = meant_clause (spelled ps c)
 
-premises_tell : (P : Protocol) → HasNames P → Tells ⊥ (premises P) Anything Anything (read_hypotheses P)
-premises_tell P names =
-    let some = row_of (hypotheses P) (codes ", ") (codes " => ") in
-    front_tells (fixed (codes "=> ")) some 61 (closed_by (codes "=> ") []) (things (one_hypothesis P)) (closed_tells (codes "=> ") []) (some_hypotheses-tell P names)
-    (told_alone (codes "=> ") (λ bs. front bs == 61) true (λ rest. refl)) (told_by_front some Anything (λ b. b == 61) false (some_hypotheses-tell P names).forms (some_front P))
+clause_as : (P : Protocol) (bytes : List ℕ) (at : ℕ) → read_clause P bytes at ≡ then_read (arrowed (read_premises P)) (λ _ ps. mapped (λ c. clause_of ps c) (read_conclusion P)) bytes at
+clause_as P bytes at = premised (read_premises P bytes at)
+  where
+    concluded : (ps : Premises) (o : Outcome (Fact Term)) → next (next o (λ c p k. Found (spelled ps c) p k)) (λ c p k. Found (meant_clause c) p k) ≡ next o (λ c p k. Found (clause_of ps c) p k)
+    concluded ps (Faulty p e) = refl
+    concluded ps (Found c p k) = refl
+
+    arrow : (ps : Premises) (o : Outcome (Unit {0}))
+        → next (next o (λ _ p k. next (read_conclusion P k p) (λ c q j. Found (spelled ps c) q j))) (λ c p k. Found (meant_clause c) p k)
+        ≡ next (next o (λ _ p k. Found ps p k)) (λ qs p k. next (read_conclusion P k p) (λ c q j. Found (clause_of qs c) q j))
+    arrow ps (Faulty p e) = refl
+    arrow ps (Found u p k) = concluded ps (read_conclusion P k p)
+
+    premised : (o : Outcome Premises)
+        → next (next o (λ ps p k. next (read_fixed (codes "=> ") k p) (λ _ q j. next (read_conclusion P j q) (λ c z i. Found (spelled ps c) z i)))) (λ c p k. Found (meant_clause c) p k)
+        ≡ next (next o (λ ps p k. next (read_fixed (codes "=> ") k p) (λ _ q j. Found ps q j))) (λ qs p k. next (read_conclusion P k p) (λ c q j. Found (clause_of qs c) q j))
+    premised (Faulty p e) = refl
+    premised (Found ps p k) = arrow ps (read_fixed (codes "=> ") k p)
 
 pub clauses_tell : (P : Protocol) → HasNames P → Tells ⊥ (clauses P) Anything Anything (read_clause P)
 clauses_tell P names =
-    both_tell (premises P) (conclusions P) Anything Anything Anything Anything (read_hypotheses P) (λ at hs. mapped (λ c. record { hypotheses = hs; diffs = []; conclusion = c }) (read_conclusion P)) (premises_tell P names)
-    (λ at hs. mapped_tells (conclusions P) Anything Anything (read_conclusion P) (λ c. record { hypotheses = hs; diffs = []; conclusion = c }) (conclusions_tell P names)) (conclusions_tell P names).forms (λ bs rest text. tt) (λ bs mid of text. tt)
+    same_tells (clauses P) Anything Anything (read_clause P) (then_read (arrowed (read_premises P)) (λ _ ps. mapped (λ c. clause_of ps c) (read_conclusion P))) (clause_as P)
+    (both_tell (premises P) (conclusions P) Anything Anything Anything Anything (arrowed (read_premises P)) (λ _ ps. mapped (λ c. clause_of ps c) (read_conclusion P)) (premises_tell P names)
+    (λ at ps. mapped_tells (conclusions P) Anything Anything (read_conclusion P) (λ c. clause_of ps c) (conclusions_tell P names)) (conclusions_tell P names).forms (λ bs rest text. tt) (λ bs mid of text. tt))
 
 -- Lines.
 

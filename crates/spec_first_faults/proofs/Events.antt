@@ -8,7 +8,7 @@ use Rattle.spec_calculus.specs.Syntax.{Protocol}
 use Rattle.spec_protocol_tokens.specs.Bytes.{begins_word, is_in_word}
 use Rattle.spec_protocol_tokens.proofs.Sizes.{begins_word-in_word}
 use Rattle.spec_terms.specs.Term.{Term}
-use Rattle.spec_certificate_text.specs.Spelled.{IsWord}
+use Rattle.spec_certificate_text.specs.Spelled.{IsWord, goes_on}
 use Rattle.spec_certificate_text.specs.Loose.{onto, row}
 use Rattle.spec_certificate_text.specs.OfProtocol.{HasNames, IsEvent}
 use Rattle.spec_certificate_text.specs.Words.{event_word}
@@ -16,18 +16,18 @@ use Rattle.spec_certificate_text.specs.Written.{written_row, written_event}
 use Rattle.spec_certificate_text.proofs.Names.{event_word_is_word}
 use Rattle.spec_certificate_text.specs.Names.{CalledEvent, event_called}
 use Rattle.spec_certificate_text.specs.Terms.{Code, Syntax, Number, Symbol, Arity, Count, NodeOrder, NodeLarge}
-use Rattle.spec_certificate_text.specs.Outcomes.{Outcome, Found, Faulty, next, front, ended, Reader, read_fixed}
-use Rattle.spec_certificate_text.specs.Facts.{one_term, argument, read_terms, Performed, performed, event_named, read_event}
+use Rattle.spec_certificate_text.specs.Outcomes.{Outcome, Found, Faulty, next, front, ended, Reader, read_fixed, things}
+use Rattle.spec_certificate_text.specs.Facts.{one_tree, item_before, read_terms, Performed, performed, event_named, read_event}
 use Rattle.spec_certificate_text.specs.Readable.{MayStand}
 use Rattle.spec_certificate_text.proofs.Parts.{Finds, parts, equal_byte, other_byte, same_byte, front_is, when_false}
 use Rattle.spec_certificate_text.proofs.Called.{event_word_called, event_called_is}
 use Rattle.spec_certificate_text.proofs.FactsThere.{terms_there}
 use Rattle.spec_certificate_text.proofs.FactsFound.{terms_found}
 use Rattle.spec_reading_faults.proofs.Shared.{choice_local, found_local}
-use Rattle.spec_reading_faults.proofs.Facts.{terms_local}
+use Rattle.spec_reading_faults.proofs.Facts.{row_local}
 use Rattle.spec_certificate_faults.specs.Grammar.{EndsAt}
-use Rattle.spec_certificate_faults.specs.First.{terms}
-use Rattle.spec_first_faults.specs.Kinds.{fixed, IsRun, nothing_before, behind, marked}
+use Rattle.spec_certificate_faults.specs.First.{terms_in}
+use Rattle.spec_first_faults.specs.Kinds.{fixed, IsRun, nothing_before, behind, marked, row_of}
 use Rattle.spec_first_faults.specs.Facts.{arguments, words, WordFault, event_goes_on, EndsEvent, IsMisperformed, EventFault, applications, events}
 use Rattle.spec_first_faults.proofs.Tells.{Anything, GoesPastIt, Tells, mapped, mapped_tells, same_tells, shorter, extends_to, tells_of, tells_before}
 use Rattle.spec_first_faults.proofs.Behind.{first_extends, then_read, both_tell}
@@ -40,15 +40,15 @@ use Rattle.spec_first_faults.proofs.Rows.{separated, found_one, next_same, row_t
 
 -- Rows of terms.
 
-argument_as : (P : Protocol) (bytes : List ℕ) (at : ℕ) → argument P bytes at ≡ separated (one_term P) 44 [] (41 ∷ []) bytes at
+item_as : (binds : Bool) (P : Protocol) (closing : ℕ) → (0 == closing) ≡ false → (bytes : List ℕ) (at : ℕ) → item_before closing (one_tree binds P) bytes at ≡ separated (one_tree binds P) 44 [] (closing ∷ []) bytes at
 unfolding read_fixed
-argument_as P bytes at = next_same (one_term P bytes at) _ _ (λ t p k. by t p k)
+item_as binds P closing some bytes at = next_same (one_tree binds P bytes at) _ _ (λ t p k. by t p k)
   where
     by : (t : Term) (p : ℕ) (k : List ℕ)
-        → (if front k == 44 then found_one t true (p + 1) (drop 1 k) else (if front k == 41 then found_one t false (p + 1) (drop 1 k) else Faulty p Syntax))
-        ≡ (if front k == 44 then next (read_fixed (44 ∷ []) k p) (λ _ q r. found_one t true q r) else next (read_fixed (41 ∷ []) k p) (λ _ q r. found_one t false q r))
-    by t p [] = refl
-    by t p (b ∷ k) = both (b == 44) (b == 41)
+        → (if front k == 44 then found_one t true (p + 1) (drop 1 k) else (if front k == closing then found_one t false (p + 1) (drop 1 k) else Faulty p Syntax))
+        ≡ (if front k == 44 then next (read_fixed (44 ∷ []) k p) (λ _ q r. found_one t true q r) else next (read_fixed (closing ∷ []) k p) (λ _ q r. found_one t false q r))
+    by t p [] = ap (λ z. if z then found_one t false (p + 1) [] else Faulty p Syntax) some
+    by t p (b ∷ k) = both (b == 44) (b == closing)
       where
         both : (c z : Bool)
             → (if c then found_one t true (p + 1) k else (if z then found_one t false (p + 1) k else Faulty p Syntax))
@@ -57,8 +57,19 @@ argument_as P bytes at = next_same (one_term P bytes at) _ _ (λ t p k. by t p k
         both false true = refl
         both false false = refl
 
+-- the byte that closes a row: some byte, but no comma, and no term goes on with it
+pub record ClosesRow (closing : ℕ) : Type 0 where
+  pub some : (0 == closing) ≡ false
+  pub no_comma : (closing == 44) ≡ false
+  pub ends : goes_on closing ≡ false
+
+pub rows_tell : (binds : Bool) (P : Protocol) (closing : ℕ) → HasNames P → ClosesRow closing → Tells ⊥ (row_of (terms_in binds P) (codes ",") (closing ∷ [])) Anything Anything (things (item_before closing (one_tree binds P)))
+rows_tell binds P closing names closes =
+    row_tells (terms_in binds P) EndsWord 44 [] closing [] (one_tree binds P) (item_before closing (one_tree binds P)) (item_as binds P closing closes.some) (row_local binds P closing) (terms_tell binds P names)
+    record { apart = closes.no_comma; comma = λ rest. refl; close = λ rest. closes.ends }
+
 pub arguments_tell : (P : Protocol) → HasNames P → Tells ⊥ (arguments P) Anything Anything (read_terms P)
-arguments_tell P names = row_tells (terms P) EndsWord 44 [] 41 [] (one_term P) (argument P) (argument_as P) (terms_local P) (terms_tell P names) record { apart = refl; comma = λ rest. refl; close = λ rest. refl }
+arguments_tell P names = rows_tell false P 41 names record { some = refl; no_comma = refl; ends = refl }
 
 -- The word.
 

@@ -1,5 +1,5 @@
 -- Facts: readers of hypotheses and of conclusions tell their first fault.
-use Rattle.std.proofs.Common.{◌≡◌, ℕ, ◌+◌, ◌==◌, if◌then◌else◌, Bool, true, false, List, [], ◌∷◌, ◌++◌, drop, codes, refl, sym, ◌∙◌, ap}
+use Rattle.std.proofs.Common.{◌≡◌, ℕ, ◌+◌, ◌==◌, inl, inr, if◌then◌else◌, Bool, true, false, List, [], ◌∷◌, ◌++◌, drop, codes, refl, sym, ◌∙◌, ap}
 use Rattle.spec_trees.specs.Tree.{Leaf, Node}
 use Rattle.spec_calculus.specs.Syntax.{Protocol}
 use Rattle.spec_protocol_tokens.specs.Bytes.{begins_word}
@@ -68,7 +68,8 @@ word_front (b ∷ w) k is = other_byte b 41 (λ same. let never : false ≡ true
 
 -- no term begins with `)`
 term_front : (t : Loose) (k : List ℕ) → IsInGrammar t → (front (onto t k) == 41) ≡ false
-term_front (Leaf w) k is = word_front w k is
+term_front (Leaf w) k (inl is) = word_front w k is
+term_front (Leaf w) k (inr bound) = ap (λ u. front (u ++ k) == 41) bound.is
 term_front (Node (Applied w) ts) k is = word_front w _ is.0
 term_front (Node Tupled ts) k is = refl
 term_front (Node (Made w ds) ts) k is = word_front w _ is.0.0
@@ -162,9 +163,10 @@ conclusions_tell P names =
     (either_told (performed (codes "ev(") P) bad_or is_m false (told_performed P (codes "ev(") is_m false (λ rest. refl))
     (either_told (violated P) tab_or is_m false (told_violated P is_m false (λ rest. refl)) (told_either P is_m false (λ rest. refl) (λ rest. refl))))
 
-pub hypothesis_front : (P : Protocol) → IsToldBy (hypotheses P) (λ bs. front bs == 61) false
-hypothesis_front P =
-    let test = λ (bs : List ℕ). front bs == 61 in
+-- the first byte of a hypothesis is none of the others
+pub hypothesis_front : (P : Protocol) (b : ℕ) → (109 == b) ≡ false → (101 == b) ≡ false → (116 == b) ≡ false → (97 == b) ≡ false → IsToldBy (hypotheses P) (λ bs. front bs == b) false
+hypothesis_front P b no_m no_e no_t no_a =
+    let test = λ (bs : List ℕ). front bs == b in
     either_told (one_of (performed (codes "mev(") P) (sent P)) (one_of (performed (codes "ev(") P) (one_of (stored P) (known P))) test false
-    (either_told (performed (codes "mev(") P) (sent P) test false (told_performed P (codes "mev(") test false (λ rest. refl)) (told_sent P test false (λ rest. refl)))
-    (either_told (performed (codes "ev(") P) (one_of (stored P) (known P)) test false (told_performed P (codes "ev(") test false (λ rest. refl)) (told_either P test false (λ rest. refl) (λ rest. refl)))
+    (either_told (performed (codes "mev(") P) (sent P) test false (told_performed P (codes "mev(") test false (λ rest. no_m)) (told_sent P test false (λ rest. no_m)))
+    (either_told (performed (codes "ev(") P) (one_of (stored P) (known P)) test false (told_performed P (codes "ev(") test false (λ rest. no_e)) (told_either P test false (λ rest. no_t) (λ rest. no_a)))

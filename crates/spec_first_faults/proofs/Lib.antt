@@ -12,6 +12,8 @@ pub mod Rows
 pub mod Numbers
 pub mod Events
 pub mod Facts
+pub mod Diffs
+pub mod Premises
 pub mod Clauses
 pub mod Reports
 pub mod Tables

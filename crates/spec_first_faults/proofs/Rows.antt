@@ -66,10 +66,10 @@ row_forms K May c cs z zs forms marks =
     many_forms (behind K (fixed (c ∷ cs))) (behind K (fixed (z ∷ zs))) Anything Anything (closed_forms K May (c ∷ cs) forms marks.comma) (closed_forms K May (z ∷ zs) forms marks.close)
     record { one = λ bytes rest text. tt; other = λ bytes rest text. tt }
 
-thing_long : (K : Kind) (May : List ℕ → Type 0) (w : ℕ) (ws bytes rest : List ℕ) → Forms ⊥ K May → (behind K (fixed (w ∷ ws))).Text bytes rest → length rest + 1 ≤ length bytes
+pub thing_long : (K : Kind) (May : List ℕ → Type 0) (w : ℕ) (ws bytes rest : List ℕ) → Forms ⊥ K May → (behind K (fixed (w ∷ ws))).Text bytes rest → length rest + 1 ≤ length bytes
 thing_long K May w ws bytes rest forms (mid, one, text) = omega (arith, shorter K May bytes mid (forms.moved bytes mid one), ap length text, length-append ws rest)
 
-row_long : (K : Kind) (May : List ℕ → Type 0) (c : ℕ) (cs : List ℕ) (z : ℕ) (zs bytes rest : List ℕ) → Forms ⊥ K May → Forms ⊥ (row_of K (c ∷ cs) (z ∷ zs)) Anything → (row_of K (c ∷ cs) (z ∷ zs)).Text bytes rest → length rest + 1 ≤ length bytes
+pub row_long : (K : Kind) (May : List ℕ → Type 0) (c : ℕ) (cs : List ℕ) (z : ℕ) (zs bytes rest : List ℕ) → Forms ⊥ K May → Forms ⊥ (row_of K (c ∷ cs) (z ∷ zs)) Anything → (row_of K (c ∷ cs) (z ∷ zs)).Text bytes rest → length rest + 1 ≤ length bytes
 row_long K May c cs z zs bytes rest forms row (last one) = thing_long K May z zs bytes rest forms one
 row_long K May c cs z zs bytes rest forms row (further mid one more) = omega (arith, thing_long K May c cs bytes mid forms one, shorter (row_of K (c ∷ cs) (z ∷ zs)) Anything mid rest (row.moved mid rest more))
 
@@ -100,11 +100,10 @@ one_thing {A} item c cs close most xs bytes at =
         ∙ (ap (λ o. if front k == c then o else next (next (read_fixed close k p) (λ _ q r. Found (t, false) q r)) on) (next_twice (read_fixed (c ∷ cs) k p) (λ _ q r. Found (t, true) q r) on)
         ∙ ap (λ o. if front k == c then next (read_fixed (c ∷ cs) k p) (λ _ q r. things_from (separated item c cs close) most (xs ++ t ∷ []) r q) else o) (next_twice (read_fixed close k p) (λ _ q r. Found (t, false) q r) on))
 
--- no thing is read of no bytes
-none_tells : {A : Type 0} (K : Kind) (May : List ℕ → Type 0) (c : ℕ) (cs : List ℕ) (z : ℕ) (zs : List ℕ) (xs : List A) → Forms ⊥ K May → Forms ⊥ (row_of K (c ∷ cs) (z ∷ zs)) Anything
-    → Tells {A = List A} ⊥ (row_of K (c ∷ cs) (z ∷ zs)) (λ bytes. length bytes ≤ 0) Anything (λ bytes at. Faulty at Syntax)
-none_tells {A} K May c cs z zs xs forms row = record {
-  forms = row;
+-- nothing is read of no bytes, where each text has some
+pub none_tells : {A : Type 0} (K : Kind) → Forms ⊥ K Anything → ((bytes rest : List ℕ) → K.Text bytes rest → length rest + 1 ≤ length bytes) → Tells {A = A} ⊥ K (λ bytes. length bytes ≤ 0) Anything (λ bytes at. Faulty at Syntax)
+none_tells {A} K forms long = record {
+  forms = forms;
   local = never_local;
   found = λ bytes at place x rest of e. absurd (cc);
   counted = λ bytes at place x rest of e. absurd (cc);
@@ -118,23 +117,23 @@ none_tells {A} K May c cs z zs xs forms row = record {
           to = record {
             before = [];
             text = refl;
-            extends = record { other = row.some.front ++ row.some.follows; rest = row.some.follows; long = omega (arith, length-append row.some.front row.some.follows); is = row.some.each row.some.follows row.some.may };
+            extends = record { other = forms.some.front ++ forms.some.follows; rest = forms.some.follows; long = omega (arith, length-append forms.some.front forms.some.follows); is = forms.some.each forms.some.follows forms.some.may };
           };
           counted = omega (arith, places);
         },
       );
-  texts = λ bytes rest at of text. absurd (omega (arith, of, row_long K May c cs z zs bytes rest forms row text));
-  told = λ code bytes there at of fault. absurd (none bytes there of (goes_past (row_of K (c ∷ cs) (z ∷ zs)) bytes there (row.past code bytes there fault)));
+  texts = λ bytes rest at of text. absurd (omega (arith, of, long bytes rest text));
+  told = λ code bytes there at of fault. absurd (none bytes there of (goes_past K bytes there (forms.past code bytes there fault)));
 }
   where
-    none : (bytes there : List ℕ) → length bytes ≤ 0 → GoesPastIt (row_of K (c ∷ cs) (z ∷ zs)) bytes there → ⊥
+    none : (bytes there : List ℕ) → length bytes ≤ 0 → GoesPastIt K bytes there → ⊥
     none bytes there few past = omega (arith, few, ap length past.text, length-append past.before there, ap length past.begins)
 
 row_tells-within : {A : Type 0} (K : Kind) (May : List ℕ → Type 0) (c : ℕ) (cs : List ℕ) (z : ℕ) (zs : List ℕ) (item : Reader A) → Tells ⊥ K Anything May item → AreBehind May c cs z zs
     → (most : ℕ) (xs : List A) → Tells ⊥ (row_of K (c ∷ cs) (z ∷ zs)) (λ bytes. length bytes ≤ most) Anything (things_from (separated item c cs (z ∷ zs)) most xs)
 row_tells-within {A} K May c cs z zs item first marks zero xs =
     same_tells (row_of K (c ∷ cs) (z ∷ zs)) (λ bytes. length bytes ≤ 0) Anything (things_from (separated item c cs (z ∷ zs)) 0 xs) (λ bytes at. Faulty at Syntax) (things_none (separated item c cs (z ∷ zs)) xs)
-    (none_tells K May c cs z zs xs first.forms (row_forms K May c cs z zs first.forms marks))
+    (let row = row_forms K May c cs z zs first.forms marks in none_tells {A = List A} (row_of K (c ∷ cs) (z ∷ zs)) row (λ bytes rest text. row_long K May c cs z zs bytes rest first.forms row text))
 row_tells-within {A} K May c cs z zs item first marks (suc most) xs =
     let R = row_of K (c ∷ cs) (z ∷ zs) in
     let one = separated item c cs (z ∷ zs) in

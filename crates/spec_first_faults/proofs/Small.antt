@@ -10,19 +10,19 @@ use Rattle.spec_certificate_text.specs.Loose.{Loose, onto}
 use Rattle.spec_certificate_text.specs.Spelled.{Stops, goes_on}
 use Rattle.spec_certificate_text.specs.OfProtocol.{HasNames}
 use Rattle.spec_certificate_text.specs.Terms.{Code, Syntax, Begins, Ended}
-use Rattle.spec_certificate_text.specs.Runs.{Done, Refused, read_on, read_term}
+use Rattle.spec_certificate_text.specs.Runs.{Done, Refused, read_on, read_tree}
 use Rattle.spec_certificate_text.specs.Outcomes.{Outcome, Found, Faulty, next, front, ended, Reader, read_fixed}
-use Rattle.spec_certificate_text.specs.Facts.{term_outcome, one_term}
+use Rattle.spec_certificate_text.specs.Facts.{term_outcome, one_tree}
 use Rattle.spec_certificate_text.proofs.Complete.{reading}
 use Rattle.spec_certificate_text.proofs.ReadRuns.{read_on-place}
 use Rattle.spec_certificate_text.proofs.FactsThere.{as_done}
 use Rattle.spec_certificate_text.proofs.Parts.{equal_byte, fixed_there, fixed_found, run_stops}
 use Rattle.spec_reading_faults.proofs.Shared.{IsLocal, next_local, choice_local, found_local, never_local, ended_local}
-use Rattle.spec_reading_faults.proofs.Terms.{as_refused, term_local}
+use Rattle.spec_reading_faults.proofs.Terms.{as_refused, tree_local}
 use Rattle.spec_reading_faults.proofs.Parts.{fixed_local, run, run_local}
 use Rattle.spec_certificate_faults.specs.Grammar.{IsInGrammar, EndsAt, EndsBefore}
 use Rattle.spec_certificate_faults.specs.TermFaults.{StandsInTerm}
-use Rattle.spec_certificate_faults.specs.First.{IsTermText, terms}
+use Rattle.spec_certificate_faults.specs.First.{IsTermText, terms_in}
 use Rattle.spec_certificate_faults.proofs.Comes.{either, Stopped, EndedAt, none_before}
 use Rattle.spec_certificate_faults.proofs.Trees.{tree_read}
 use Rattle.spec_certificate_faults.proofs.AnyFault.{term_fault_told}
@@ -365,31 +365,31 @@ runs_tell begins passes tests = record {
 abbrev pub EndsWord : List ℕ → Type 0
 EndsWord other = EndsAt goes_on other
 
-term_right : (P : Protocol) → HasNames P → (bytes : List ℕ) (at place : ℕ) (code : Code) → read_term P bytes at ≡ Refused place code → IsRight (terms P) bytes (at + length bytes) place code
-term_right P names bytes at place code e =
-    either (term_told_stands P names bytes at place code e)
+term_right : (binds : Bool) (P : Protocol) → HasNames P → (bytes : List ℕ) (at place : ℕ) (code : Code) → read_tree binds P bytes at ≡ Refused place code → IsRight (terms_in binds P) bytes (at + length bytes) place code
+term_right binds P names bytes at place code e =
+    either (term_told_stands binds P names bytes at place code e)
     (λ syntax.
-    let told = term_goes_on P names bytes at place (e ∙ ap (Refused place) syntax) in
+    let told = term_goes_on binds P names bytes at place (e ∙ ap (Refused place) syntax) in
     let on = told.goes_on in
     inl (syntax, record { there = told.there; to = record { before = on.before; text = on.text; extends = record { other = on.other; rest = on.behind; long = on.long; is = on.is } }; counted = told.counted }))
     (λ stands. inr record { there = stands.there; is = stands.is; counted = stands.counted })
 
-term_texts : (P : Protocol) (bytes rest : List ℕ) (at : ℕ) → IsTermText bytes rest → TextRead ⊥ (one_term P bytes at) bytes at rest
-term_texts P bytes rest at is =
-    either (subst (λ bs. Stopped P bs at (reading [] Begins at) rest ⊎ EndedAt P bs at (reading [] Begins at) rest []) (sym is.text) (tree_read P is.tree is.is rest at [] at is.ends (none_before at)))
+term_texts : (binds : Bool) (P : Protocol) (bytes rest : List ℕ) (at : ℕ) → IsTermText bytes rest → TextRead ⊥ (one_tree binds P bytes at) bytes at rest
+term_texts binds P bytes rest at is =
+    either (subst (λ bs. Stopped binds P bs at (reading [] Begins at) rest ⊎ EndedAt binds P bs at (reading [] Begins at) rest []) (sym is.text) (tree_read binds P is.tree is.is rest at [] at is.ends (none_before at)))
     (λ stopped. inr record { place = stopped.place; code = stopped.code; is = ap term_outcome stopped.is; early = inl stopped.early; other = stopped.other })
     (λ one.
-    let ended : read_on P bytes at (reading [] Begins at) ≡ Done one.term one.through.place (is.next ∷ is.later) = one.through.is ∙ ap (λ bs. read_on P bs one.through.place (reading [] (Ended one.term) one.since)) is.more in
+    let ended : read_on binds P bytes at (reading [] Begins at) ≡ Done one.term one.through.place (is.next ∷ is.later) = one.through.is ∙ ap (λ bs. read_on binds P bs one.through.place (reading [] (Ended one.term) one.since)) is.more in
     inl record { value = one.term; place = one.through.place; is = ap term_outcome (ended ∙ ap (Done one.term one.through.place) (sym is.more)) })
 
-term_told : (P : Protocol) → HasNames P → (code : Code) (bytes there : List ℕ) (at : ℕ) → StandsInTerm P code bytes there → ToldIt (one_term P bytes at) bytes at there code
-term_told P names code bytes there at is =
-    let told = term_fault_told P names bytes at there code is in
+term_told : (binds : Bool) (P : Protocol) → HasNames P → (code : Code) (bytes there : List ℕ) (at : ℕ) → StandsInTerm binds P code bytes there → ToldIt (one_tree binds P bytes at) bytes at there code
+term_told binds P names code bytes there at is =
+    let told = term_fault_told binds P names bytes at there code is in
     record { place = told.place; told = told.told; is = ap term_outcome told.is; not_after = told.not_after }
 
-term_past : (P : Protocol) → HasNames P → (code : Code) (bytes there : List ℕ) → StandsInTerm P code bytes there → GoesPastIt (terms P) bytes there
-term_past P names code bytes there is =
-    let past = fault_shown P names code bytes there is in
+term_past : (binds : Bool) (P : Protocol) → HasNames P → (code : Code) (bytes there : List ℕ) → StandsInTerm binds P code bytes there → GoesPastIt (terms_in binds P) bytes there
+term_past binds P names code bytes there is =
+    let past = fault_shown binds P names code bytes there is in
     record {
       before = past.before;
       text = past.text;
@@ -412,21 +412,21 @@ term_stands t is other may =
     let some = word_ends other may in
     record { tree = t; is = is; ends = ends_there t other may; next = some.0; later = some.1; more = some.2; text = onto_followed t [] other }
 
-pub terms_forms : (P : Protocol) → HasNames P → Forms ⊥ (terms P) EndsWord
-terms_forms P names = record {
+pub terms_forms : (binds : Bool) (P : Protocol) → HasNames P → Forms ⊥ (terms_in binds P) EndsWord
+terms_forms binds P names = record {
   moved = λ bytes rest text. record { front = onto text.tree []; text = text.text ∙ sym (onto_followed text.tree [] rest); each = λ other may. term_stands text.tree text.is other may };
   some = record { front = 97 ∷ []; each = λ other may. term_stands (Leaf (97 ∷ [])) (one_letter 97 refl) other may; follows = 41 ∷ []; may = refl };
-  past = λ code bytes there fault. inl (term_past P names code bytes there fault);
+  past = λ code bytes there fault. inl (term_past binds P names code bytes there fault);
   other_codes = λ bytes there fault. fault.fault;
 }
 
-pub terms_tell : (P : Protocol) → HasNames P → Tells ⊥ (terms P) Anything EndsWord (one_term P)
-terms_tell P names = record {
-  forms = terms_forms P names;
-  local = term_local P;
-  found = λ bytes at place t rest of e. done_text P names bytes at place t rest (as_done (read_term P bytes at) t place rest e);
-  counted = λ bytes at place t rest of e. read_on-place P bytes at (reading [] Begins at) t place rest (as_done (read_term P bytes at) t place rest e);
-  right = λ bytes at place code of e. term_right P names bytes at place code (as_refused (read_term P bytes at) place code e);
-  texts = λ bytes rest at of text. term_texts P bytes rest at text;
-  told = λ code bytes there at of fault. term_told P names code bytes there at fault;
+pub terms_tell : (binds : Bool) (P : Protocol) → HasNames P → Tells ⊥ (terms_in binds P) Anything EndsWord (one_tree binds P)
+terms_tell binds P names = record {
+  forms = terms_forms binds P names;
+  local = tree_local binds P;
+  found = λ bytes at place t rest of e. done_text binds P names bytes at place t rest (as_done (read_tree binds P bytes at) t place rest e);
+  counted = λ bytes at place t rest of e. read_on-place binds P bytes at (reading [] Begins at) t place rest (as_done (read_tree binds P bytes at) t place rest e);
+  right = λ bytes at place code of e. term_right binds P names bytes at place code (as_refused (read_tree binds P bytes at) place code e);
+  texts = λ bytes rest at of text. term_texts binds P bytes rest at text;
+  told = λ code bytes there at of fault. term_told binds P names code bytes there at fault;
 }

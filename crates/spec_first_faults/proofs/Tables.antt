@@ -7,11 +7,11 @@ use Rattle.spec_well_formed.specs.Words.{DeclaredName, Free, Constructor, Destru
 use Rattle.spec_protocol_tokens.specs.Bytes.{begins_word, is_in_word}
 use Rattle.spec_certificate_text.specs.OfProtocol.{HasNames}
 use Rattle.spec_certificate_text.specs.Names.{CalledEvent, called_in, with_tables}
-use Rattle.spec_certificate_text.specs.Terms.{Syntax, Mode, Begins, InWord, InDigits, AtBracket, Ended, Reading, Step, Goes, Ends, Fault}
+use Rattle.spec_certificate_text.specs.Terms.{Syntax, Mode, Begins, InWord, InDigits, AtBracket, InBound, Ended, Reading, Step, Goes, Ends, Fault}
 use Rattle.spec_certificate_text.specs.Steps.{step_in, step}
 use Rattle.spec_certificate_text.specs.Runs.{Read, followed, read_on}
 use Rattle.spec_certificate_text.specs.Outcomes.{Outcome, Found, Faulty, next, front, ended, Reader, things_from}
-use Rattle.spec_certificate_text.specs.Facts.{term_outcome, one_term, argument, read_terms, performed, event_named, read_event, read_entry}
+use Rattle.spec_certificate_text.specs.Facts.{term_outcome, one_tree, argument, read_terms, performed, event_named, read_event, read_entry}
 use Rattle.spec_first_faults.proofs.Rows.{next_same}
 
 -- the name of an event of that protocol is that of a table of this one
@@ -54,14 +54,15 @@ names_with_tables P names = record {
 
 -- Terms are read alike in both.
 
-step_alike : (P : Protocol) (at : ℕ) (r : Reading) (b : ℕ) → step P at r b ≡ step (with_tables P) at r b
-step_alike P at r b = by r.mode
+step_alike : (binds : Bool) (P : Protocol) (at : ℕ) (r : Reading) (b : ℕ) → step binds P at r b ≡ step binds (with_tables P) at r b
+step_alike binds P at r b = by r.mode
   where
-    by : (mode : Mode) → step_in P at r.heads r.from mode b ≡ step_in (with_tables P) at r.heads r.from mode b
+    by : (mode : Mode) → step_in binds P at r.heads r.from mode b ≡ step_in binds (with_tables P) at r.heads r.from mode b
     by Begins = refl
     by (InWord word) = refl
     by (InDigits word digits) = refl
     by AtBracket = refl
+    by (InBound digits) = refl
     by (Ended t) = refl
 
 followed_alike : (f g : Reading → Read) (at : ℕ) (bytes : List ℕ) → ((r : Reading) → f r ≡ g r) → (s : Step) → followed f at bytes s ≡ followed g at bytes s
@@ -69,18 +70,18 @@ followed_alike f g at bytes alike (Goes r) = alike r
 followed_alike f g at bytes alike (Ends t) = refl
 followed_alike f g at bytes alike (Fault place code) = refl
 
-read_on_alike : (P : Protocol) (bytes : List ℕ) (at : ℕ) (r : Reading) → read_on P bytes at r ≡ read_on (with_tables P) bytes at r
-read_on_alike P [] at r = refl
-read_on_alike P (b ∷ bytes) at r =
-    ap (followed (read_on P bytes (at + 1)) at (b ∷ bytes)) (step_alike P at r b)
-    ∙ followed_alike (read_on P bytes (at + 1)) (read_on (with_tables P) bytes (at + 1)) at (b ∷ bytes) (read_on_alike P bytes (at + 1)) (step (with_tables P) at r b)
+read_on_alike : (binds : Bool) (P : Protocol) (bytes : List ℕ) (at : ℕ) (r : Reading) → read_on binds P bytes at r ≡ read_on binds (with_tables P) bytes at r
+read_on_alike binds P [] at r = refl
+read_on_alike binds P (b ∷ bytes) at r =
+    ap (followed (read_on binds P bytes (at + 1)) at (b ∷ bytes)) (step_alike binds P at r b)
+    ∙ followed_alike (read_on binds P bytes (at + 1)) (read_on binds (with_tables P) bytes (at + 1)) at (b ∷ bytes) (read_on_alike binds P bytes (at + 1)) (step binds (with_tables P) at r b)
 
-one_term_alike : (P : Protocol) (bytes : List ℕ) (at : ℕ) → one_term P bytes at ≡ one_term (with_tables P) bytes at
-one_term_alike P bytes at = ap term_outcome (read_on_alike P bytes at record { heads = []; mode = Begins; from = at })
+one_tree_alike : (binds : Bool) (P : Protocol) (bytes : List ℕ) (at : ℕ) → one_tree binds P bytes at ≡ one_tree binds (with_tables P) bytes at
+one_tree_alike binds P bytes at = ap term_outcome (read_on_alike binds P bytes at record { heads = []; mode = Begins; from = at })
 
 argument_alike : (P : Protocol) (bytes : List ℕ) (at : ℕ) → argument P bytes at ≡ argument (with_tables P) bytes at
 argument_alike P bytes at =
-    ap (λ o. next o (λ t place rest. if front rest == 44 then Found (t, true) (place + 1) (drop 1 rest) else (if front rest == 41 then Found (t, false) (place + 1) (drop 1 rest) else Faulty place Syntax))) (one_term_alike P bytes at)
+    ap (λ o. next o (λ t place rest. if front rest == 44 then Found (t, true) (place + 1) (drop 1 rest) else (if front rest == 41 then Found (t, false) (place + 1) (drop 1 rest) else Faulty place Syntax))) (one_tree_alike false P bytes at)
 
 things_alike : {A : Type 0} (r s : Reader (A × Bool)) → ((bytes : List ℕ) (at : ℕ) → r bytes at ≡ s bytes at) → (most : ℕ) (xs : List A) (bytes : List ℕ) (at : ℕ) → things_from r most xs bytes at ≡ things_from s most xs bytes at
 unfolding things_from

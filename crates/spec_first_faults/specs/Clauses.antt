@@ -5,13 +5,17 @@ use Rattle.spec_calculus.specs.Syntax.{Protocol}
 use Rattle.spec_certificate_faults.specs.First.{Kind}
 use Rattle.spec_first_faults.specs.Kinds.{fixed, behind, one_of, many, at_most, row_of}
 use Rattle.spec_first_faults.specs.Numbers.{numbers}
-use Rattle.spec_first_faults.specs.Facts.{hypotheses, conclusions}
+use Rattle.spec_first_faults.specs.Facts.{hypotheses, conclusions, diffs}
 
--- hypotheses, a comma and a space between each two, and ` => `; or `=> ` alone
+-- constraints, a comma and a space between each two, and ` => `
+abbrev pub constraints : Protocol → Kind
+constraints P = row_of (diffs P) (codes ", ") (codes " => ")
+
+-- hypotheses, and then constraints, a comma and a space between each two, and ` => `; or `=> ` alone
 abbrev pub premises : Protocol → Kind
-premises P = one_of (fixed (codes "=> ")) (row_of (hypotheses P) (codes ", ") (codes " => "))
+premises P = one_of (fixed (codes "=> ")) (many (behind (hypotheses P) (fixed (codes ", "))) (one_of (behind (hypotheses P) (fixed (codes " => "))) (constraints P)))
 
--- a clause: its hypotheses and its conclusion
+-- a clause: its hypotheses, its constraints and its conclusion
 abbrev pub clauses : Protocol → Kind
 clauses P = behind (premises P) (conclusions P)
 

@@ -1,4 +1,4 @@
--- The kinds of events, phases and facts, as the grammar has them.
+-- The kinds of events, phases, facts and constraints, as the grammar has them.
 use Rattle.std.specs.Prelude.{◌≡◌, ◌≢◌, ℕ, ◌≤◌, ◌||◌, ◌==◌, Bool, false, List, [], ◌∷◌, length, codes}
 use Rattle.std.specs.Char.{is_ascii_digit}
 use Rattle.std.specs.Fmt.{decimal}
@@ -14,9 +14,10 @@ use Rattle.spec_certificate_text.specs.Outcomes.{front}
 use Rattle.spec_certificate_text.specs.Words.{event_word}
 use Rattle.spec_certificate_text.specs.Written.{written_event}
 use Rattle.spec_certificate_text.specs.Terms.{Code, Symbol, Arity}
-use Rattle.spec_certificate_text.specs.Readable.{MayStand}
+use Rattle.spec_certificate_text.specs.Readable.{MayStand, SideMayStand}
+use Rattle.spec_certificate_text.specs.Text.{sides_text}
 use Rattle.spec_certificate_faults.specs.Grammar.{EndsAt}
-use Rattle.spec_certificate_faults.specs.First.{Kind, terms}
+use Rattle.spec_certificate_faults.specs.First.{Kind, terms, sides}
 use Rattle.spec_first_faults.specs.Kinds.{fixed, IsRun, runs, nothing_before, behind, one_of, marked, row_of}
 use Rattle.spec_first_faults.specs.Numbers.{numbers}
 
@@ -132,3 +133,29 @@ hypotheses P = one_of (one_of (performed (codes "mev(") P) (sent P)) (one_of (pe
 -- any fact but `mev`
 abbrev pub conclusions : Protocol → Kind
 conclusions P = one_of (sent P) (one_of (performed (codes "ev(") P) (one_of (violated P) (one_of (stored P) (known P))))
+
+-- Constraints.
+
+-- sides, a comma between each two, and what stands behind the last
+abbrev pub sides_before : Protocol → List ℕ → Kind
+sides_before P close = row_of (sides P) (codes ",") close
+
+-- Arity: another number of left sides than of right sides, none too deep
+pub record IsUnpaired (P : Protocol) (bytes : List ℕ) : Type 0 where
+  pub left : List Term
+  pub right : List Term
+  pub rest : List ℕ
+  pub left_each : AllByRecursion (SideMayStand P) left
+  pub right_each : AllByRecursion (SideMayStand P) right
+  pub left_some : 1 ≤ length left
+  pub right_some : 1 ≤ length right
+  pub wrong : length left ≢ length right
+  pub text : bytes ≡ sides_text P record { left = left; right = right } rest
+
+abbrev pub DiffFault : Protocol → Code → List ℕ → Type 0
+DiffFault P Arity bytes = IsUnpaired P bytes
+DiffFault P code bytes = ⊥
+
+-- `diff(`, sides, `;`, sides and `)`
+abbrev pub diffs : Protocol → Kind
+diffs P = marked (behind (fixed (codes "diff(")) (behind (sides_before P (codes ";")) (sides_before P (codes ")")))) (DiffFault P)

@@ -2,9 +2,10 @@
 //!
 //! A kind of texts is made of others: fixed bytes, runs of bytes, one text behind another, one of two, so many, and rows. A
 //! fault stands in one of them behind texts of those before it, whatever their words name: digits that are no number, a word
-//! that is that of no event, an event over another number of arguments, a clause past the limit, the number of another query
-//! than the next or of one past the last, and the end of all bytes where a query is left; within terms those of terms. Of
-//! syntax a fault stands where some text of the whole goes on up to there, and none with the byte there, or with the end.
+//! that is that of no event, an event over another number of arguments, a constraint with another number of left sides than of
+//! right sides, a clause past the limit, the number of another query than the next or of one past the last, and the end of all
+//! bytes where a query is left; within terms those of terms. Of syntax a fault stands where some text of the whole goes on up to
+//! there, and none with the byte there, or with the end.
 //!
 //! The first fault is the one at the earliest place, and at this place the one of the least number. Reading tells it, and it is
 //! told exactly where there is one.
@@ -23,7 +24,7 @@ ghost use Rattle.spec_certificate_text.specs.Text.{certificate_text};
 ghost use Rattle.spec_certificate_text.specs.Terms.{Code};
 ghost use Rattle.spec_certificate_text.specs.Outcomes.{Found, Faulty, read_number};
 ghost use Rattle.spec_certificate_text.specs.Facts.{read_att, read_mess, read_event};
-ghost use Rattle.spec_certificate_text.specs.Facts.{read_hypothesis, read_conclusion};
+ghost use Rattle.spec_certificate_text.specs.Facts.{read_hypothesis, read_conclusion, read_diff};
 ghost use Rattle.spec_certificate_text.specs.Clauses.{read_clause};
 ghost use Rattle.spec_certificate_text.specs.Certificates.{read_certificate};
 ghost use Rattle.spec_certificate_text.specs.Readable.{IsReadableCertificate};
@@ -31,7 +32,7 @@ ghost use Rattle.spec_certificate_text.specs.Reports.{Claim, read_report};
 ghost use Rattle.spec_certificate_text.specs.ReportText.{SpellsReport};
 ghost use Rattle.spec_certificate_faults.specs.First.{StandsAt, IsFirstFault};
 ghost use Rattle.spec_first_faults.specs.Numbers.{numbers};
-ghost use Rattle.spec_first_faults.specs.Facts.{known, sent, events, hypotheses, conclusions};
+ghost use Rattle.spec_first_faults.specs.Facts.{known, sent, events, hypotheses, conclusions, diffs};
 ghost use Rattle.spec_first_faults.specs.Clauses.{clauses, certificates};
 ghost use Rattle.spec_first_faults.specs.Reports.{reports};
 ghost use Rattle.spec_first_faults.specs.Told.{IsToldFirst, IsFaultless};
@@ -54,7 +55,7 @@ pub fn the_first_fault_of_a_message_is_told()
         StandsAt (sent P) bytes at other code → ⊥ }
 {}
 
-/// Of a number, an event, a fact or a clause the first fault is told, exactly where there is one.
+/// Of a number, an event, a fact, a constraint or a clause the first fault is told, exactly where there is one.
 pub fn the_first_fault_of_a_clause_is_told()
     ensures numbers { IsToldFirst numbers read_number }
     ensures events { (P : Protocol) → HasNames P → IsToldFirst (events P) (read_event P) }
@@ -62,6 +63,7 @@ pub fn the_first_fault_of_a_clause_is_told()
         IsToldFirst (hypotheses P) (read_hypothesis P) }
     ensures conclusions { (P : Protocol) → HasNames P →
         IsToldFirst (conclusions P) (read_conclusion P) }
+    ensures diffs { (P : Protocol) → HasNames P → IsToldFirst (diffs P) (read_diff P) }
     ensures clauses { (P : Protocol) → HasNames P → IsToldFirst (clauses P) (read_clause P) }
 {}
 

@@ -32,6 +32,7 @@ use Rattle.spec_node_counts.specs.ReadClauses as clauses
 use Rattle.spec_node_counts.specs.ReadClauses.{is_unreached, all_reached, reached_clauses, clauses_read}
 use Rattle.spec_certificate_text.proofs.Alike.{Alike, found, faulty, next_alike, same_alike, if_alike, within_alike}
 use Rattle.spec_node_counts.proofs.Alike.{lines_alike}
+use Rattle.spec_node_counts.proofs.Bounds.{HaveBounds, bounds_more}
 use Rattle.spec_node_counts.proofs.Counting.{IsAlong, Along, along}
 use Rattle.spec_node_counts.proofs.Lower.{body_is, node_numbers_are}
 use Rattle.spec_node_counts.proofs.Simulated.{clause_alike}
@@ -48,28 +49,28 @@ if_so Q false o p q r first second = second refl
 -- Tables.
 
 data Tabled : List Term → Table → Type 0 where
-  tabled : (T : Table) → HaveStarts T.terms T.starts → Tabled T.terms T
+  tabled : (T : Table) → HaveStarts T.terms T.starts → HaveBounds T.terms T.bounds → Tabled T.terms T
 
-judged_alike : (T : Table) (from : ℕ) (x : NodeRead) (place : ℕ) (rest : List ℕ) → HaveStarts T.terms T.starts → AllByRecursion (IsNumberOf (length T.terms)) x.numbers
+judged_alike : (T : Table) (from : ℕ) (x : NodeRead) (place : ℕ) (rest : List ℕ) → HaveStarts T.terms T.starts → HaveBounds T.terms T.bounds → AllByRecursion (IsNumberOf (length T.terms)) x.numbers
     → Alike Tabled (judged_node T.terms from x place rest) (judged T from x place rest)
-judged_alike T from x place rest starts are =
+judged_alike T from x place rest starts bounds are =
     let n = node_read x.head x.numbers in
     let t = term_of T.terms n in
     if_alike Tabled (not (takes x.head (length x.numbers))) _ _ _ _ (faulty from Arity)
     (if_so Tabled (list_any (same_term t) T.terms) _ _ _ _ (λ e. faulty from NodeOrder) (λ new.
     if_alike Tabled (is_over most_symbols (size t)) _ _ _ _ (faulty from NodeLarge)
-    (found _ _ place rest (tabled (with_node T n) (grown T.terms T.starts n starts (node_numbers_are (length T.terms) x.head x.numbers are) new)))))
+    (found _ _ place rest (tabled (with_node T n) (grown T.terms T.starts n starts (node_numbers_are (length T.terms) x.head x.numbers are) new) (bounds_more T.terms T.bounds bounds n)))))
 
 line_alike : (P : Protocol) (terms : List Term) (T : Table) (bytes : List ℕ) (at : ℕ) → Tabled terms T → Alike Tabled (read_node_line P terms bytes at) (node_line P T bytes at)
-line_alike P _ _ bytes at (tabled T starts) =
+line_alike P _ _ bytes at (tabled T starts bounds) =
     same_alike Tabled (read_fixed (codes "n ") bytes at) _ _ (λ _ from r.
     so_alike Tabled (read_body P (own_number T.terms) r from) _ _ (λ x p s read.
-    next_alike Tabled Tabled (judged_node T.terms from x p s) (judged T from x p s) _ _ (judged_alike T from x p s starts (body_is P (length T.terms) r from x p s read)) (λ terms U p r is.
+    next_alike Tabled Tabled (judged_node T.terms from x p s) (judged T from x p s) _ _ (judged_alike T from x p s starts bounds (body_is P (length T.terms) r from x p s read)) (λ terms U p r is.
     same_alike Tabled (read_fixed (codes "\n") r p) _ _ (λ _ p r. found _ _ p r is))))
 
 nodes_alike : (P : Protocol) (bytes : List ℕ) (at : ℕ) → Alike Tabled (read_nodes P bytes at) (table_read P bytes at)
 nodes_alike P bytes at =
-    lines_alike Tabled 110 (read_node_line P) (node_line P) (λ terms T bytes at is. line_alike P terms T bytes at is) (length bytes) [] no_nodes bytes at (tabled no_nodes no_starts)
+    lines_alike Tabled 110 (read_node_line P) (node_line P) (λ terms T bytes at is. line_alike P terms T bytes at is) (length bytes) [] no_nodes bytes at (tabled no_nodes no_starts refl)
 
 -- Certificates.
 
@@ -109,17 +110,17 @@ end_alike T _ _ place rest (along cs w v is) = subst (λ b. Alike Same (if ends_
     by true = faulty place NodeOrder
     by false = reflexive (certificate_end cs rest place)
 
-clauses_alike : (P : Protocol) (T : Table) (bytes : List ℕ) (at : ℕ) → HaveStarts T.terms T.starts → Alike Same (behind_nodes P T.terms bytes at) (next (reached_clauses P T bytes at) end_of)
-clauses_alike P T bytes at starts =
+clauses_alike : (P : Protocol) (T : Table) (bytes : List ℕ) (at : ℕ) → HaveStarts T.terms T.starts → HaveBounds T.terms T.bounds → Alike Same (behind_nodes P T.terms bytes at) (next (reached_clauses P T bytes at) end_of)
+clauses_alike P T bytes at starts bounds =
     let none : IsAlong T walks.nothing_yet counts.nothing_counted = record { complete = refl; few = omega arith; clause = omega arith; all = omega arith } in
     within_alike Same _ (clauses.read_clauses P T counts.nothing_counted bytes at) _ _
     (next_alike (Along T) Same _ _ _ _
-    (lines_alike (Along T) 99 (kept.read_clause_line P T.terms) (puts (clauses.clause_line P T)) (λ before counted bytes at is. clause_alike P T starts before counted bytes at is) most_clauses (with [] walks.nothing_yet) ([], counts.nothing_counted) bytes at
+    (lines_alike (Along T) 99 (kept.read_clause_line P T.terms) (puts (clauses.clause_line P T)) (λ before counted bytes at is. clause_alike P T starts bounds before counted bytes at is) most_clauses (with [] walks.nothing_yet) ([], counts.nothing_counted) bytes at
     (along [] walks.nothing_yet counts.nothing_counted none))
     (λ before counted place rest is. end_alike T before counted place rest is))
 
 tables_then : (P : Protocol) (terms : List Term) (T : Table) (place : ℕ) (rest : List ℕ) → Tabled terms T → Alike Same (behind_nodes P terms rest place) (next (reached_clauses P T rest place) end_of)
-tables_then P _ _ place rest (tabled T starts) = clauses_alike P T rest place starts
+tables_then P _ _ place rest (tabled T starts bounds) = clauses_alike P T rest place starts bounds
 
 pub read_alike : (P : Protocol) (bytes : List ℕ) (at : ℕ) → read_numbered P bytes at ≡ next (clauses_read P bytes at) (λ cs place rest. certificate_end cs rest place)
 read_alike P bytes at = same_outcome _ _

@@ -1,11 +1,12 @@
 -- A walk by counts goes along with the walk that keeps all terms.
-use Rattle.std.proofs.Common.{◌≡◌, ℕ, zero, suc, ◌+◌, ◌≤◌, min, Bool, true, false, not, ◌||◌, ◌&&◌, ◌==◌, nat_le, if◌then◌else◌, List, [], ◌∷◌, ◌++◌, length, take, refl, sym, ◌∙◌, ap, arith}
+use Rattle.std.proofs.Common.{◌≡◌, ℕ, zero, suc, ◌+◌, ◌≤◌, min, Bool, true, false, not, ◌||◌, ◌&&◌, ◌==◌, nat_le, if◌then◌else◌, List, [], ◌∷◌, ◌++◌, length, take, refl, sym, ◌∙◌, ap, subst, arith}
 use Rattle.std.proofs.lemmas.Bool.Decides.{nat_tests}
 use Rattle.spec_trees.specs.Tree.{size}
 use Rattle.spec_calculus.specs.Bounds.{most_symbols}
 use Rattle.spec_calculus.specs.Syntax.{Protocol}
 use Rattle.spec_terms.specs.Term.{Term}
-use Rattle.spec_certificate_text.specs.Terms.{NodeOrder, NodeLarge}
+use Rattle.spec_certificate_text.specs.Sides.{holds_bound}
+use Rattle.spec_certificate_text.specs.Terms.{Symbol, NodeOrder, NodeLarge}
 use Rattle.spec_certificate_text.specs.Outcomes.{Outcome, Found, Faulty}
 use Rattle.spec_node_tables.specs.Nodes.{term_at}
 use Rattle.spec_node_tables.specs.Large.{is_over, most_certificate_symbols}
@@ -18,7 +19,8 @@ use Rattle.spec_node_reading.specs.Loops.{Behind, with}
 use Rattle.spec_node_reading.specs.ReadClauses.{judged_number}
 use Rattle.spec_node_counts.specs.Nodes.{Table}
 use Rattle.spec_node_counts.specs.Counts.{Counted, counted, with_symbols, at_clause, is_next, counted_through, is_large, term_of_number}
-use Rattle.spec_certificate_text.proofs.Alike.{Alike, found, faulty, both}
+use Rattle.spec_node_counts.proofs.Bounds.{HaveBounds, bound_is}
+use Rattle.spec_certificate_text.proofs.Alike.{Alike, found, faulty, if_alike, both}
 
 -- the counts of the walk: so many nodes of the table are complete, and there are so many symbols, as far as they are counted
 pub record IsAlong (T : Table) (w : walks.Walked) (v : Counted) : Type 0 where
@@ -120,19 +122,33 @@ fits_alike T w v from n place rest starts is next true = faulty from NodeLarge
 fits_alike T w v from n place rest starts is next false =
     found _ _ place rest (along (term_at T.terms n) (walks.with_term (term_at T.terms n) w) (counted_through n (size (term_at T.terms n)) v) (through_along T w v n starts is next))
 
-judged_is : (P : Protocol) (T : Table) (w : walks.Walked) (v : Counted) (from n place : ℕ) (rest : List ℕ) → HaveStarts T.terms T.starts → IsAlong T w v
-    → judged_number P T.terms w from n place rest ≡ judged_by (term_at T.terms n) w from place rest (not (is_next T v n)) (is_over_by (term_at T.terms n) n v)
-judged_is P T w v from n place rest starts is =
+-- by the walk that keeps all terms, and by counts
+abbrev ordered : Table → walks.Walked → ℕ → ℕ → ℕ → List ℕ → Outcome (Behind Term)
+ordered T w from n place rest =
+    judged_by (term_at T.terms n) w from place rest (is_out_of_order T.terms w.seen n) (is_over most_symbols (w.clause + size (term_at T.terms n)) || is_over most_certificate_symbols (w.all + size (term_at T.terms n)))
+
+abbrev ordered_by : Table → Counted → ℕ → ℕ → ℕ → List ℕ → Outcome (Term × Counted)
+ordered_by T v from n place rest = if is_next T v n then counted_by (term_at T.terms n) n v from place rest (is_over_by (term_at T.terms n) n v) else Faulty from NodeOrder
+
+ordered_is : (T : Table) (w : walks.Walked) (v : Counted) (from n place : ℕ) (rest : List ℕ) → HaveStarts T.terms T.starts → IsAlong T w v
+    → ordered T w from n place rest ≡ judged_by (term_at T.terms n) w from place rest (not (is_next T v n)) (is_over_by (term_at T.terms n) n v)
+ordered_is T w v from n place rest starts is =
     ap (λ b. judged_by (term_at T.terms n) w from place rest b (is_over most_symbols (w.clause + size (term_at T.terms n)) || is_over most_certificate_symbols (w.all + size (term_at T.terms n)))) (order_alike T w v n starts is)
     ∙ ap (judged_by (term_at T.terms n) w from place rest (not (is_next T v n))) (large_alike T w v n (size (term_at T.terms n)) is)
 
-pub number_alike : (P : Protocol) (T : Table) (w : walks.Walked) (v : Counted) (from n place : ℕ) (rest : List ℕ) → HaveStarts T.terms T.starts → IsAlong T w v
-    → Alike (Along {A = Term} T) (judged_number P T.terms w from n place rest) (term_of_number T v from n place rest)
-number_alike P T w v from n place rest starts is = by (is_next T v n) refl
+ordered_alike : (T : Table) (w : walks.Walked) (v : Counted) (from n place : ℕ) (rest : List ℕ) → HaveStarts T.terms T.starts → IsAlong T w v
+    → Alike (Along {A = Term} T) (ordered T w from n place rest) (ordered_by T v from n place rest)
+ordered_alike T w v from n place rest starts is = by (is_next T v n) refl
   where
-    by : (b : Bool) → is_next T v n ≡ b → Alike (Along {A = Term} T) (judged_number P T.terms w from n place rest) (term_of_number T v from n place rest)
-    by true e = both (Along {A = Term} T) _ _ _ _ (judged_is P T w v from n place rest starts is ∙ ap (λ b. judged_by (term_at T.terms n) w from place rest (not b) (is_over_by (term_at T.terms n) n v)) e)
+    by : (b : Bool) → is_next T v n ≡ b → Alike (Along {A = Term} T) (ordered T w from n place rest) (ordered_by T v from n place rest)
+    by true e = both (Along {A = Term} T) _ _ _ _ (ordered_is T w v from n place rest starts is ∙ ap (λ b. judged_by (term_at T.terms n) w from place rest (not b) (is_over_by (term_at T.terms n) n v)) e)
         (ap (λ b. if b then counted_by (term_at T.terms n) n v from place rest (is_over_by (term_at T.terms n) n v) else Faulty from NodeOrder) e)
         (fits_alike T w v from n place rest starts is e (is_over_by (term_at T.terms n) n v))
-    by false e = both (Along {A = Term} T) _ _ _ _ (judged_is P T w v from n place rest starts is ∙ ap (λ b. judged_by (term_at T.terms n) w from place rest (not b) (is_over_by (term_at T.terms n) n v)) e)
+    by false e = both (Along {A = Term} T) _ _ _ _ (ordered_is T w v from n place rest starts is ∙ ap (λ b. judged_by (term_at T.terms n) w from place rest (not b) (is_over_by (term_at T.terms n) n v)) e)
         (ap (λ b. if b then counted_by (term_at T.terms n) n v from place rest (is_over_by (term_at T.terms n) n v) else Faulty from NodeOrder) e) (faulty from NodeOrder)
+
+pub number_alike : (binds : Bool) (P : Protocol) (T : Table) (w : walks.Walked) (v : Counted) (from n place : ℕ) (rest : List ℕ) → HaveStarts T.terms T.starts → HaveBounds T.terms T.bounds → IsAlong T w v
+    → Alike (Along {A = Term} T) (judged_number P T.terms binds w from n place rest) (term_of_number binds T v from n place rest)
+number_alike binds P T w v from n place rest starts bounds is =
+    subst (λ b. Alike (Along {A = Term} T) (judged_number P T.terms binds w from n place rest) (if not binds && b then Faulty from Symbol else ordered_by T v from n place rest)) (sym (bound_is T.terms T.bounds bounds n))
+    (if_alike (Along {A = Term} T) (not binds && holds_bound (term_at T.terms n)) _ _ _ _ (faulty from Symbol) (ordered_alike T w v from n place rest starts is))

@@ -1,5 +1,6 @@
 pub mod Steps
 mod Alike
+mod Bounds
 mod Counting
 mod Simulated
 mod Lower

@@ -1,5 +1,5 @@
 -- The numbers of a node that was read are those of nodes before it.
-use Rattle.std.proofs.Common.{◌≡◌, ℕ, zero, suc, ◌≤◌, ◌==◌, ◌||◌, nat_le, if◌then◌else◌, Bool, true, false, List, [], ◌∷◌, ◌++◌, length, codes, refl, sym, ◌∙◌, subst, arith}
+use Rattle.std.proofs.Common.{◌≡◌, ℕ, zero, suc, ◌+◌, ◌≤◌, ◌==◌, ◌||◌, nat_le, if◌then◌else◌, Bool, true, false, List, [], ◌∷◌, ◌++◌, length, drop, codes, refl, sym, ◌∙◌, subst, arith}
 use Rattle.std.specs.List.{AllByRecursion}
 use Rattle.std.proofs.lemmas.Bool.Decides.{nat_tests}
 use Rattle.spec_calculus.specs.Syntax.{Protocol}
@@ -11,7 +11,7 @@ use Rattle.spec_certificate_text.proofs.Parts.{parts, chosen}
 use Rattle.spec_node_tables.specs.Text.{node_numbers}
 use Rattle.spec_node_tables.specs.Order.{IsNumberOf}
 use Rattle.spec_node_reading.specs.Loops.{lines_through}
-use Rattle.spec_node_reading.specs.ReadNodes.{HeadRead, IsVariable, Names, read_head, lower_number, spaced_number, read_spaced, NodeRead, read_body, node_read}
+use Rattle.spec_node_reading.specs.ReadNodes.{HeadRead, IsVariable, Names, read_bound, read_head, lower_number, spaced_number, read_spaced, NodeRead, read_body, node_read}
 use Rattle.spec_node_counts.proofs.Steps.{behind_line, line_more, line_full}
 
 neither : (a b : Bool) → (a || b) ≡ false → (a ≡ false) × (b ≡ false)
@@ -97,12 +97,24 @@ headed_is P nodes bytes at x place rest e =
     let same : y ≡ x = cc in
     subst (λ (z : NodeRead). AllByRecursion (IsNumberOf nodes) z.numbers) same (read_spaced_is nodes head.rest head.place numbers.value numbers.place numbers.rest numbers.first)
 
+bound_is : (nodes : ℕ) (bytes : List ℕ) (at : ℕ) (x : NodeRead) (place : ℕ) (rest : List ℕ) → next (read_bound (drop 1 bytes) (at + 1)) (λ head p r. headed head [] p r) ≡ Found x place rest → AllByRecursion (IsNumberOf nodes) x.numbers
+bound_is nodes bytes at x place rest e =
+    let head = parts (read_bound (drop 1 bytes) (at + 1)) (λ head p r. headed head [] p r) x place rest e in
+    let y : NodeRead = record { head = head.value; numbers = [] } in
+    let told : Found y head.place head.rest ≡ Found x place rest = head.later in
+    let same : y ≡ x = cc in
+    subst (λ (z : NodeRead). AllByRecursion (IsNumberOf nodes) z.numbers) same tt
+
 pub body_is : (P : Protocol) (nodes : ℕ) (bytes : List ℕ) (at : ℕ) (x : NodeRead) (place : ℕ) (rest : List ℕ) → read_body P (suc nodes) bytes at ≡ Found x place rest → AllByRecursion (IsNumberOf nodes) x.numbers
 body_is P nodes bytes at x place rest e =
-    chosen (front bytes == 64) (next (read_fixed (codes "@ ") bytes at) (λ _ p r. next (lower_number (suc nodes) r p) attackers)) (next (read_head P bytes at) (λ head p r. next (read_spaced (suc nodes) r p) (headed head)))
+    let bound_or : Outcome NodeRead = if front bytes == 63 then next (read_bound (drop 1 bytes) (at + 1)) (λ head p r. headed head [] p r) else next (read_head P bytes at) (λ head p r. next (read_spaced (suc nodes) r p) (headed head)) in
+    chosen (front bytes == 64) (next (read_fixed (codes "@ ") bytes at) (λ _ p r. next (lower_number (suc nodes) r p) attackers)) bound_or
     x place rest (AllByRecursion (IsNumberOf nodes) x.numbers) e
     (λ is told. attackers_is nodes bytes at x place rest told)
-    (λ isnt told. headed_is P nodes bytes at x place rest told)
+    (λ isnt other. chosen (front bytes == 63) (next (read_bound (drop 1 bytes) (at + 1)) (λ head p r. headed head [] p r)) (next (read_head P bytes at) (λ head p r. next (read_spaced (suc nodes) r p) (headed head)))
+    x place rest (AllByRecursion (IsNumberOf nodes) x.numbers) other
+    (λ is told. bound_is nodes bytes at x place rest told)
+    (λ no_bound told. headed_is P nodes bytes at x place rest told))
 
 pub node_numbers_are : (nodes : ℕ) (head : HeadRead) (ns : List ℕ) → AllByRecursion (IsNumberOf nodes) ns → AllByRecursion (IsNumberOf nodes) (node_numbers (node_read head ns))
 node_numbers_are nodes (IsVariable x) ns are = tt

@@ -1,14 +1,14 @@
 -- How far the walk through the clauses has come, by counts: of the nodes that are complete, and of symbols.
-use Rattle.std.specs.Prelude.{ℕ, ◌+◌, ◌==◌, nat_le, min, not, ◌&&◌, ◌||◌, if◌then◌else◌, Bool, List, length}
+use Rattle.std.specs.Prelude.{ℕ, ◌+◌, ◌==◌, nat_le, min, not, ◌&&◌, ◌||◌, if◌then◌else◌, Bool, true, false, List, length}
 use Rattle.spec_trees.specs.Tree.{size}
 use Rattle.spec_calculus.specs.Bounds.{most_symbols}
 use Rattle.spec_terms.specs.Term.{Term}
-use Rattle.spec_certificate_text.specs.Terms.{NodeOrder, NodeLarge}
+use Rattle.spec_certificate_text.specs.Terms.{Symbol, NodeOrder, NodeLarge}
 use Rattle.spec_certificate_text.specs.Outcomes.{Outcome, Found, Faulty, next, read_number, Reader}
 use Rattle.spec_node_tables.specs.Nodes.{term_at}
 use Rattle.spec_node_tables.specs.Large.{is_over, most_certificate_symbols}
 use Rattle.spec_node_starts.specs.Starts.{start_at}
-use Rattle.spec_node_counts.specs.Nodes.{Table}
+use Rattle.spec_node_counts.specs.Nodes.{Table, bound_at}
 
 -- so many nodes are complete; and the symbols of the clause, and of all clauses
 pub record Counted : Type 0 where
@@ -42,13 +42,20 @@ counted_through n symbols w = with_symbols symbols record { reached = if nat_le 
 abbrev pub is_large : Counted → Bool
 is_large w = is_over most_symbols w.clause || is_over most_certificate_symbols w.all
 
--- the term of a number that stands at the first place
-abbrev pub term_of_number : Table → Counted → ℕ → ℕ → ℕ → List ℕ → Outcome (Term × Counted)
-term_of_number T w from n place rest =
-    if is_next T w n
+-- the term of a number that stands at the first place: outside of constraints no bound variable stands in it
+abbrev pub term_of_number : Bool → Table → Counted → ℕ → ℕ → ℕ → List ℕ → Outcome (Term × Counted)
+term_of_number binds T w from n place rest =
+    if not binds && bound_at T.bounds n then Faulty from Symbol
+    else (if is_next T w n
     then (if is_large (counted_through n (size (term_at T.terms n)) w) then Faulty from NodeLarge else Found (term_at T.terms n, counted_through n (size (term_at T.terms n)) w) place rest)
-    else Faulty from NodeOrder
+    else Faulty from NodeOrder)
 
--- the number of a node
+-- the number of a node, in a constraint or in a fact
+abbrev pub read_tree : Bool → Table → Counted → Reader (Term × Counted)
+read_tree binds T w bytes at = next (read_number bytes at) (λ n p r. term_of_number binds T w at n p r)
+
 abbrev pub read_term : Table → Counted → Reader (Term × Counted)
-read_term T w bytes at = next (read_number bytes at) (λ n p r. term_of_number T w at n p r)
+read_term T w bytes at = read_tree false T w bytes at
+
+abbrev pub read_side : Table → Counted → Reader (Term × Counted)
+read_side T w bytes at = read_tree true T w bytes at

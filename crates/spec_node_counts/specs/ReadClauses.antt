@@ -4,30 +4,44 @@ use Rattle.spec_calculus.specs.Bounds.{most_clauses}
 use Rattle.spec_calculus.specs.Syntax.{Protocol}
 use Rattle.spec_terms.specs.Term.{Term}
 use Rattle.spec_clauses.specs.Fact.{Fact, Clause}
+use Rattle.spec_certificate_text.specs.Sides.{SidesOf}
+use Rattle.spec_certificate_text.specs.Clauses.{Premises}
 use Rattle.spec_certificate_text.specs.Terms.{NodeOrder}
 use Rattle.spec_certificate_text.specs.Outcomes.{Outcome, Found, Faulty, next, front, read_fixed, Reader}
 use Rattle.spec_certificate_text.specs.Rounds.{puts}
 use Rattle.spec_certificate_text.specs.Walks as walks
 use Rattle.spec_node_reading.specs.Loops.{lines_through}
 use Rattle.spec_node_counts.specs.Nodes.{Table, table_read}
-use Rattle.spec_node_counts.specs.Counts.{Counted, nothing_counted, at_clause, with_symbols, read_term}
+use Rattle.spec_node_counts.specs.Counts.{Counted, nothing_counted, at_clause, with_symbols, read_term, read_side}
 use Rattle.spec_node_counts.specs.ReadFacts.{Walk}
 
--- a hypothesis and what stands behind it: `, ` where another follows, or ` => `
+-- a hypothesis, and `, ` behind it where another follows
 abbrev pub one_hypothesis : Protocol → Table → Walk (Fact Term × Bool)
 one_hypothesis P T w bytes at = walks.one_hypothesis (read_term T) with_symbols P w bytes at
 
--- hypotheses, a comma and a space between each two, and ` => ` behind the last
+-- hypotheses, a comma and a space between each two
 abbrev pub some_hypotheses : Protocol → Table → Walk (List (Fact Term))
 some_hypotheses P T w bytes at = walks.some_hypotheses (read_term T) with_symbols P w bytes at
 
--- the hypotheses of a clause, which may be none, and `=> `
-abbrev pub read_hypotheses : Protocol → Table → Walk (List (Fact Term))
-read_hypotheses P T w bytes at = walks.read_hypotheses (read_term T) with_symbols P w bytes at
+-- a constraint, and `, ` behind it where another follows
+abbrev pub one_diff : Table → Walk (SidesOf Term × Bool)
+one_diff T w bytes at = walks.one_diff (read_side T) with_symbols w bytes at
+
+-- constraints, a comma and a space between each two
+abbrev pub some_diffs : Table → Walk (List (SidesOf Term))
+some_diffs T w bytes at = walks.some_diffs (read_side T) with_symbols w bytes at
+
+-- constraints behind hypotheses, of which there may be none
+abbrev pub read_diffs : Table → Walk (List (SidesOf Term))
+read_diffs T w bytes at = walks.read_diffs (read_side T) with_symbols w bytes at
+
+-- the hypotheses and the constraints of a clause, which may be none
+abbrev pub read_premises : Protocol → Table → Walk Premises
+read_premises P T w bytes at = walks.read_premises (read_term T) (read_side T) with_symbols P w bytes at
 
 -- a clause
 abbrev pub read_clause : Protocol → Table → Walk (Clause Term)
-read_clause P T w bytes at = walks.read_clause (read_term T) with_symbols P w bytes at
+read_clause P T w bytes at = walks.read_clause (read_term T) (read_side T) with_symbols P w bytes at
 
 -- `c `, a clause and the end of its line
 abbrev pub clause_line : Protocol → Table → Walk (Clause Term)

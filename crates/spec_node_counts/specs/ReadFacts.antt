@@ -1,14 +1,15 @@
--- Reading facts that have numbers of nodes for terms: on the walk of the counts.
+-- Reading facts and constraints that have numbers of nodes for terms: on the walk of the counts.
 use Rattle.std.specs.Prelude.{ℕ, Bool, List, Option}
 use Rattle.spec_calculus.specs.Syntax.{Protocol}
 use Rattle.spec_terms.specs.Term.{Term}
 use Rattle.spec_clauses.specs.Fact.{Fact}
+use Rattle.spec_certificate_text.specs.Sides.{SidesOf}
 use Rattle.spec_certificate_text.specs.Names.{CalledEvent}
 use Rattle.spec_certificate_text.specs.Outcomes.{Reader}
 use Rattle.spec_certificate_text.specs.Facts.{Performed}
 use Rattle.spec_certificate_text.specs.Walks as walks
 use Rattle.spec_node_counts.specs.Nodes.{Table}
-use Rattle.spec_node_counts.specs.Counts.{Counted, with_symbols, read_term}
+use Rattle.spec_node_counts.specs.Counts.{Counted, with_symbols, read_term, read_side}
 
 -- what reads something, where the walk has come so far, and walks on
 abbrev pub Walk : Type 0 → Type 0
@@ -73,3 +74,12 @@ read_hypothesis P T w bytes at = walks.read_hypothesis (read_term T) with_symbol
 -- a fact that may be a conclusion: any but `mev`
 abbrev pub read_conclusion : Protocol → Table → Walk (Fact Term)
 read_conclusion P T w bytes at = walks.read_conclusion (read_term T) with_symbols P w bytes at
+
+-- Constraints.
+
+-- sides, a comma between each two, and behind the last the byte that closes their row
+abbrev pub read_sides : Table → ℕ → Walk (List Term)
+read_sides T closing w bytes at = walks.read_row (read_side T) closing w bytes at
+
+abbrev pub read_diff : Table → Walk (SidesOf Term)
+read_diff T w bytes at = walks.read_diff (read_side T) with_symbols w bytes at

@@ -16,7 +16,7 @@ use Rattle.spec_clauses.specs.Inclusion.{Has}
 use Rattle.spec_certificate_text.specs.Loose.{Applied}
 use Rattle.spec_certificate_text.specs.Words.{word_at}
 use Rattle.spec_certificate_text.specs.OfProtocol.{IsShort, IsSymbolOf, HasNames}
-use Rattle.spec_certificate_text.proofs.Names.{variable_is_variable}
+use Rattle.spec_certificate_text.specs.Sides.{variable_word}
 use Rattle.spec_certificate_text.specs.Names.{name_called}
 use Rattle.spec_certificate_text.proofs.Called.{point_called}
 use Rattle.spec_node_tables.specs.Table.{place_in, number_in, arguments_of}
@@ -30,8 +30,8 @@ use Rattle.spec_node_tables.proofs.Back.{node_back}
 use Rattle.spec_node_tables.proofs.Ordered.{Apart, apart_more}
 use Rattle.spec_node_faults.specs.Loose.{node_line, written_node}
 use Rattle.spec_node_faults.specs.Nodes as faults
-use Rattle.spec_node_faults.specs.Nodes.{Placed, placed, place_if, no_number, NodeAt, nodes_at, is_variable_alone, named, head_digits, arguments_at, is_unknown, not_below, is_misapplied, arguments_stand, is_whole, meant, is_empty, node_symbols, node_arities, node_orders, node_larges}
-use Rattle.spec_node_faults.proofs.Meant.{named_is, not_alone, meant_is}
+use Rattle.spec_node_faults.specs.Nodes.{placed, place_if, no_number, NodeAt, nodes_at, is_variable_alone, named, head_digits, arguments_at, is_unknown, not_below, is_misapplied, arguments_stand, is_whole, meant, node_symbols, node_arities, node_orders, node_larges}
+use Rattle.spec_node_faults.proofs.Meant.{VariableWord, own, bound, word_of_variable, stands_alone, named_is, not_alone, meant_is}
 
 -- Lists of places that are empty.
 
@@ -76,9 +76,10 @@ below_clear number at (n ∷ ns) short below =
 
 module _ (P : Protocol) (names : HasNames P) where
   head_clear : (at : ℕ) (n : TableNode) → IsNodeOf P n → flat_map no_number (head_digits at (node_head P n) (is_variable_alone (node_head P n) (map decimal (node_numbers n)))) ≡ []
-  head_clear at (Variable x) is =
-      ap (λ b. flat_map no_number (head_digits at (Applied (118 ∷ decimal x)) b)) (variable_is_variable x is)
-      ∙ ap (λ ys. ys ++ []) (decimal_clear (at + 1) x is)
+  head_clear at (Variable x) is = ap (λ b. flat_map no_number (head_digits at (Applied (variable_word x)) b)) (stands_alone x is) ∙ by (word_of_variable x is) where
+    by : VariableWord x → flat_map no_number (head_digits at (Applied (variable_word x)) true) ≡ []
+    by (own short word) = ap (λ w. flat_map no_number (head_digits at (Applied w) true)) word ∙ ap (λ ys. ys ++ []) (decimal_clear (at + 1) x short)
+    by (bound i short same word) = ap (λ w. flat_map no_number (head_digits at (Applied w) true)) word ∙ ap (λ ys. ys ++ []) (decimal_clear (at + 1) i short)
   head_clear at (Over f ns) is = ap (λ b. flat_map no_number (head_digits at (symbol_head P f) b)) (not_alone P names f (length ns) (map decimal ns) is.0) ∙ symbol_clear f (length ns) is.0 where
     symbol_clear : (f : Sym) (n : ℕ) → IsSymbolOf P f n → flat_map no_number (head_digits at (symbol_head P f) false) ≡ []
     symbol_clear (Ctor f) n is = refl
@@ -101,7 +102,7 @@ module _ (P : Protocol) (names : HasNames P) where
   symbol_known Attacker ds is = refl
 
   node_known : (n : TableNode) → IsNodeOf P n → is_unknown P (node_head P n) (map decimal (node_numbers n)) ≡ false
-  node_known (Variable x) is = ap (λ b. not b && is_none (named P (Applied (118 ∷ decimal x)) 0)) (variable_is_variable x is)
+  node_known (Variable x) is = ap (λ b. not b && is_none (named P (Applied (variable_word x)) 0)) (stands_alone x is)
   node_known (Over f ns) is = symbol_known f (map decimal ns) (counted f ns is.0)
 
   takes : (f : Sym) (ds : List (List ℕ)) → IsSymbolOf P f (length ds) → option_map_or (λ called. not (called.arity == length ds)) (named P (symbol_head P f) (length ds)) false ≡ false
@@ -121,7 +122,7 @@ module _ (P : Protocol) (names : HasNames P) where
   symbol_takes Attacker ds is = takes Attacker ds is
 
   node_takes : (n : TableNode) → IsNodeOf P n → is_misapplied P (node_head P n) (map decimal (node_numbers n)) ≡ false
-  node_takes (Variable x) is = ap (λ b. not b && option_map_or (λ called. not (called.arity == 0)) (named P (Applied (118 ∷ decimal x)) 0) false) (variable_is_variable x is)
+  node_takes (Variable x) is = ap (λ b. not b && option_map_or (λ called. not (called.arity == 0)) (named P (Applied (variable_word x)) 0) false) (stands_alone x is)
   node_takes (Over f ns) is = symbol_takes f (map decimal ns) (counted f ns is.0)
 
   short_numbers : (n : TableNode) → IsNodeOf P n → AllByRecursion IsShort (node_numbers n)

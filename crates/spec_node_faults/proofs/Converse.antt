@@ -4,32 +4,39 @@ use Rattle.std.specs.Prelude.{flat_map, take, drop}
 use Rattle.std.specs.Fmt.{decimal}
 use Rattle.std.specs.List.{AllByRecursion}
 use Rattle.std.proofs.lemmas.List.{length-map}
-use Rattle.spec_trees.specs.Tree.{trees, items_of, size}
+use Rattle.spec_trees.specs.Tree.{Leaf, bind, trees, items_of, size}
 use Rattle.spec_trees.proofs.Rows.{items_of-trees}
 use Rattle.spec_calculus.specs.Bounds.{most_symbols, most_clauses}
 use Rattle.spec_calculus.specs.Syntax.{Protocol}
 use Rattle.spec_terms.specs.Term.{Term}
-use Rattle.spec_clauses.specs.Fact.{Fact, Clause, terms_of, map_fact, map_clause}
+use Rattle.spec_clauses.specs.Diff.{Side}
+use Rattle.spec_clauses.specs.Fact.{Fact, terms_of, map_fact}
 use Rattle.spec_clauses.specs.Fact as fact
 use Rattle.spec_clauses.proofs.Inclusion.{all_has}
-use Rattle.spec_clauses.proofs.Lists.{all_append, all_weaker, all_first, all_second}
+use Rattle.spec_clauses.specs.Shown.{slot_shown}
+use Rattle.spec_clauses.proofs.Lists.{all_append, all_weaker}
 use Rattle.spec_certificates.specs.Certificate.{Certificate}
-use Rattle.spec_certificate_text.specs.OfProtocol.{IsShort, IsEvent, IsTable, IsSymbolOf, IsTermOf, AreTermsOf, IsFactOf, IsClauseOf, HasNames}
+use Rattle.spec_certificate_text.specs.OfProtocol.{IsShort, IsEvent, IsTable, IsSymbolOf, IsTermBelow, most_side_variables, AreSidesOf, IsTermOf, AreTermsOf, IsFactOf, IsDiffOf, IsClauseOf, HasNames}
+use Rattle.spec_certificate_text.specs.Sides.{first_bound, SidesOf, SpelledClause, meant_diff, meant_clause, map_sides, map_spelled, holds_bound}
+use Rattle.spec_certificate_text.proofs.Sides.{diff_spelled, meant_own}
 use Rattle.spec_certificate_text.specs.Terms.{Code, Number, Symbol, Arity, Count, NodeOrder, NodeLarge}
 use Rattle.spec_certificate_text.specs.Readable.{IsRow}
+use Rattle.spec_node_tables.specs.Table.{spelled_terms}
 use Rattle.spec_node_tables.specs.Nodes.{TableNode, Variable, Over, NodeCertificate, with_nodes, term_at, term_of, terms_from, without_nodes}
 use Rattle.spec_node_tables.specs.Text.{text_with_nodes}
-use Rattle.spec_node_tables.specs.OfProtocol.{IsNodeOf, HasPredicate, IsFactOver, IsClauseOver}
+use Rattle.spec_node_tables.specs.OfProtocol.{IsNodeOf, HasPredicate, IsFactOver, AreSidesOver, IsClauseOver}
 use Rattle.spec_node_tables.specs.Order.{IsNumberOf, HasNumbersOf, StandInOrder, IsInOrder}
 use Rattle.spec_node_tables.specs.Text as short
+use Rattle.spec_node_tables.proofs.Back.{of_parts}
 use Rattle.spec_node_tables.proofs.Certificates.{mapped_all}
 use Rattle.spec_node_tables.proofs.Ordered.{has_number, ordered_again}
 use Rattle.spec_node_faults.specs.Loose.{LooseCertificate, row_line, certificate_onto, written_clause, written}
 use Rattle.spec_node_faults.specs.Nodes.{Placed, placed, no_number, node_numbers, node_symbols, node_arities, node_orders, node_larges, place_if}
-use Rattle.spec_node_faults.specs.Clauses.{Item, item_begins, item_symbols, clause_items, item_orders, has_unreached, item_larges, item_arities, is_front, completed, item_terms}
-use Rattle.spec_node_faults.specs.Faults.{nodes_place, clauses_place, rows_place, goals_place, table_of, all_nodes, all_items, row_numbers, clause_numbers, clause_orders, clause_larges, places}
+use Rattle.spec_node_faults.specs.Clauses.{Item, item_begins, clause_items, item_orders, has_unreached, item_larges, item_arities, is_front, completed, item_terms}
+use Rattle.spec_node_faults.specs.Faults.{nodes_place, clauses_place, rows_place, goals_place, table_of, all_nodes, all_items, row_numbers, clause_numbers, clause_symbols, clause_orders, clause_larges, places}
 use Rattle.spec_node_faults.specs.Grammar.{IsNumberRow, IsInGrammar, StandsRight, IsNumberable}
-use Rattle.spec_node_faults.proofs.Items.{IsGood, item_values, in_order, clause_values, clause_begins}
+use Rattle.spec_node_faults.proofs.Items.{IsGood, AreOwn, HasOwnNumbers, item_values, clause_values, clause_begins}
+use Rattle.spec_node_faults.proofs.Own.{term_of_fact}
 use Rattle.spec_node_faults.proofs.Orders.{InOrder, terms_values}
 use Rattle.spec_node_faults.proofs.Written.{certificate_same}
 use Rattle.spec_node_faults.proofs.OfGrammar.{clause_mapped}
@@ -40,27 +47,31 @@ use Rattle.spec_node_faults.proofs.FoundSums.{ClausesWithin, clauses_within}
 
 -- What is meant by numbers of nodes of the protocol is of the protocol.
 
-row_is : (P : Protocol) (ts : List Term) → AllByRecursion (IsTermOf P) ts → AreTermsOf P (trees ts)
+-- a term of a side, of which the terms of facts are some
+abbrev IsSide : Protocol → Term → Type 0
+IsSide P t = IsTermBelow most_side_variables P t
+
+row_is : (P : Protocol) (ts : List Term) → AllByRecursion (IsSide P) ts → AreSidesOf P (trees ts)
 row_is P [] are = tt
 row_is P (t ∷ ts) are = (are.0, row_is P ts are.1)
 
-term_is : (P : Protocol) (ts : List Term) (n : ℕ) → AllByRecursion (IsTermOf P) ts → IsNumberOf (length ts) n → IsTermOf P (term_at ts n)
+term_is : (P : Protocol) (ts : List Term) (n : ℕ) → AllByRecursion (IsSide P) ts → IsNumberOf (length ts) n → IsSide P (term_at ts n)
 term_is P ts zero are is = let some = is.0 in absurd (omega arith)
-term_is P ts (suc k) are is = let within = is.1 in all_has (IsTermOf P) ts (term_at ts (suc k)) are (has_number ts k (omega arith))
+term_is P ts (suc k) are is = let within = is.1 in all_has (IsSide P) ts (term_at ts (suc k)) are (has_number ts k (omega arith))
 
-terms_are : (P : Protocol) (ts : List Term) (ns : List ℕ) → AllByRecursion (IsTermOf P) ts → AllByRecursion (IsNumberOf (length ts)) ns → AllByRecursion (IsTermOf P) (map (term_at ts) ns)
-terms_are P ts ns are is = mapped_all (IsNumberOf (length ts)) (IsTermOf P) (term_at ts) (λ n one. term_is P ts n are one) ns is
+terms_are : (P : Protocol) (ts : List Term) (ns : List ℕ) → AllByRecursion (IsSide P) ts → AllByRecursion (IsNumberOf (length ts)) ns → AllByRecursion (IsSide P) (map (term_at ts) ns)
+terms_are P ts ns are is = mapped_all (IsNumberOf (length ts)) (IsSide P) (term_at ts) (λ n one. term_is P ts n are one) ns is
 
-node_term_is : (P : Protocol) (before : List Term) (n : TableNode) → AllByRecursion (IsTermOf P) before → IsNodeOf P n → AllByRecursion (IsNumberOf (length before)) (short.node_numbers n) → IsTermOf P (term_of before n)
+node_term_is : (P : Protocol) (before : List Term) (n : TableNode) → AllByRecursion (IsSide P) before → IsNodeOf P n → AllByRecursion (IsNumberOf (length before)) (short.node_numbers n) → IsSide P (term_of before n)
 node_term_is P before (Variable x) are is numbers = is
 node_term_is P before (Over f ns) are is numbers =
     let many : length (items_of (trees (map (term_at before) ns))) ≡ length ns = ap length (items_of-trees (map (term_at before) ns)) ∙ length-map ns (term_at before) in
     (subst (IsSymbolOf P f) (sym many) is.0, row_is P (map (term_at before) ns) (terms_are P before ns are numbers))
 
-pub all_terms_are : (P : Protocol) (before : List Term) (ns : List TableNode) → AllByRecursion (IsTermOf P) before → AllByRecursion (IsNodeOf P) ns → StandInOrder before ns → AllByRecursion (IsTermOf P) (terms_from before ns)
+pub all_terms_are : (P : Protocol) (before : List Term) (ns : List TableNode) → AllByRecursion (IsSide P) before → AllByRecursion (IsNodeOf P) ns → StandInOrder before ns → AllByRecursion (IsSide P) (terms_from before ns)
 all_terms_are P before [] are is order = are
 all_terms_are P before (n ∷ ns) are is order =
-    all_terms_are P (before ++ (term_of before n ∷ [])) ns (all_append (IsTermOf P) before (term_of before n ∷ []) are (node_term_is P before n are is.0 order.0, tt)) is.1 order.2
+    all_terms_are P (before ++ (term_of before n ∷ [])) ns (all_append (IsSide P) before (term_of before n ∷ []) are (node_term_is P before n are is.0 order.0, tt)) is.1 order.2
 
 as_many_terms : (before : List Term) (ns : List TableNode) → length (terms_from before ns) ≡ length before + length ns
 as_many_terms before [] = omega arith
@@ -72,29 +83,54 @@ as_many_terms before (n ∷ ns) =
 pub as_many : (ns : List TableNode) → length (terms_from [] ns) ≡ length ns
 as_many ns = let same = as_many_terms [] ns in omega (arith, same)
 
-module _ (P : Protocol) (ts : List Term) (are : AllByRecursion (IsTermOf P) ts) where
-  fact_is : (f : Fact ℕ) → HasPredicate P f → AllByRecursion (IsNumberOf (length ts)) (terms_of f) → IsFactOf P (map_fact (term_at ts) f)
-  fact_is (fact.Att k n) has numbers = (has, term_is P ts n are numbers.0)
-  fact_is (fact.Mess k m n) has numbers = (has, term_is P ts m are numbers.0, term_is P ts n are numbers.1.0)
-  fact_is (fact.Tab n ns) has numbers = (subst (IsTable P n) (sym (length-map ns (term_at ts))) has, row_is P (map (term_at ts) ns) (terms_are P ts ns are numbers))
-  fact_is (fact.Ev e ns) has numbers = (subst (IsEvent P e) (sym (length-map ns (term_at ts))) has, row_is P (map (term_at ts) ns) (terms_are P ts ns are numbers))
-  fact_is (fact.Mev e ns) has numbers = (subst (IsEvent P e) (sym (length-map ns (term_at ts))) has, row_is P (map (term_at ts) ns) (terms_are P ts ns are numbers))
-  fact_is (fact.Bad ns) has numbers = row_is P (map (term_at ts) ns) (terms_are P ts ns are numbers)
+module _ (P : Protocol) (ts : List Term) (are : AllByRecursion (IsSide P) ts) where
+  fact_term_is : (n : ℕ) → IsNumberOf (length ts) n → holds_bound (term_at ts n) ≡ false → IsTermOf P (term_at ts n)
+  fact_term_is n is own = term_of_fact P (term_at ts n) (term_is P ts n are is) own
 
-  facts_are : (fs : List (Fact ℕ)) → AllByRecursion (IsFactOver IsShort P) fs → AllByRecursion (λ f. AllByRecursion (IsNumberOf (length ts)) (terms_of f)) fs → AllByRecursion (IsFactOf P) (map (map_fact (term_at ts)) fs)
-  facts_are [] is numbers = tt
-  facts_are (f ∷ fs) is numbers = (fact_is f is.0.0 numbers.0, facts_are fs is.1 numbers.1)
+  fact_terms_are : (ns : List ℕ) → AllByRecursion (IsNumberOf (length ts)) ns → AreOwn ts ns → AreTermsOf P (trees (map (term_at ts) ns))
+  fact_terms_are [] is own = tt
+  fact_terms_are (n ∷ ns) is own = (fact_term_is n is.0 own.0, fact_terms_are ns is.1 own.1)
 
-  pub clauses_are : (cs : List (Clause ℕ)) → AllByRecursion (IsClauseOver IsShort P) cs → AllByRecursion (HasNumbersOf (length ts)) cs → AllByRecursion (IsClauseOf P) (map (map_clause (term_at ts)) cs)
-  clauses_are [] is numbers = tt
-  clauses_are (c ∷ cs) is numbers =
-      let Numbers : Fact ℕ → Type 0 = λ f. AllByRecursion (IsNumberOf (length ts)) (terms_of f) in (
+  fact_is : (f : Fact ℕ) → HasPredicate P f → AllByRecursion (IsNumberOf (length ts)) (terms_of f) → AreOwn ts (terms_of f) → IsFactOf P (map_fact (term_at ts) f)
+  fact_is (fact.Att k n) has numbers own = (has, fact_term_is n numbers.0 own.0)
+  fact_is (fact.Mess k m n) has numbers own = (has, fact_term_is m numbers.0 own.0, fact_term_is n numbers.1.0 own.1.0)
+  fact_is (fact.Tab n ns) has numbers own = (subst (IsTable P n) (sym (length-map ns (term_at ts))) has, fact_terms_are ns numbers own)
+  fact_is (fact.Ev e ns) has numbers own = (subst (IsEvent P e) (sym (length-map ns (term_at ts))) has, fact_terms_are ns numbers own)
+  fact_is (fact.Mev e ns) has numbers own = (subst (IsEvent P e) (sym (length-map ns (term_at ts))) has, fact_terms_are ns numbers own)
+  fact_is (fact.Bad ns) has numbers own = fact_terms_are ns numbers own
+
+  facts_are : (fs : List (Fact ℕ)) → AllByRecursion (IsFactOver IsShort P) fs → AllByRecursion (λ f. AllByRecursion (IsNumberOf (length ts)) (terms_of f)) fs → AllByRecursion (λ f. AreOwn ts (terms_of f)) fs → AllByRecursion (IsFactOf P) (map (map_fact (term_at ts)) fs)
+  facts_are [] is numbers own = tt
+  facts_are (f ∷ fs) is numbers own = (fact_is f is.0.0 numbers.0 own.0, facts_are fs is.1 numbers.1 own.1)
+
+  diff_is : (s : SidesOf ℕ) → AreSidesOver IsShort s → AllByRecursion (IsNumberOf (length ts)) s.left → AllByRecursion (IsNumberOf (length ts)) s.right → IsDiffOf P (meant_diff (map_sides (term_at ts) s))
+  diff_is s is left right =
+      let meant = map_sides (term_at ts) s in
+      let spelled = diff_spelled meant in
+      let there : Term → Side = bind (λ x. Leaf (slot_shown first_bound x)) in
+      record {
+        left = subst (λ d. AreSidesOf P (trees d.left)) (sym spelled) (row_is P meant.left (terms_are P ts s.left are left));
+        right = subst (λ d. AreSidesOf P (trees d.right)) (sym spelled) (row_is P meant.right (terms_are P ts s.right are right));
+        own = meant_own meant;
+        paired = omega (arith, length-map meant.left there, length-map meant.right there, length-map s.left (term_at ts), length-map s.right (term_at ts), is.paired);
+        some = omega (arith, length-map meant.left there, length-map s.left (term_at ts), is.some);
+      }
+
+  diffs_are : (ds : List (SidesOf ℕ)) → AllByRecursion (AreSidesOver IsShort) ds → AllByRecursion (λ s. AllByRecursion (IsNumberOf (length ts)) s.left) ds → AllByRecursion (λ s. AllByRecursion (IsNumberOf (length ts)) s.right) ds
+      → AllByRecursion (IsDiffOf P) (map meant_diff (map (map_sides (term_at ts)) ds))
+  diffs_are [] is left right = tt
+  diffs_are (d ∷ ds) is left right = (diff_is d is.0 left.0 right.0, diffs_are ds is.1 left.1 right.1)
+
+  pub clauses_are : (cs : List (SpelledClause ℕ)) → AllByRecursion (IsClauseOver IsShort P) cs → AllByRecursion (HasNumbersOf (length ts)) cs → AllByRecursion (HasOwnNumbers ts) cs → AllByRecursion (IsClauseOf P) (map (λ c. meant_clause (map_spelled (term_at ts) c)) cs)
+  clauses_are [] is numbers own = tt
+  clauses_are (c ∷ cs) is numbers own =
+      let parts = of_parts (IsNumberOf (length ts)) c numbers.0 in (
         record {
-          hypotheses = facts_are c.hypotheses is.0.hypotheses (all_first Numbers c.hypotheses (c.conclusion ∷ []) numbers.0);
-          diffs = is.0.diffs;
-          conclusion = fact_is c.conclusion is.0.conclusion.0 (all_second Numbers c.hypotheses (c.conclusion ∷ []) numbers.0).0;
+          hypotheses = facts_are c.hypotheses is.0.hypotheses parts.hypotheses own.0.hypotheses;
+          diffs = diffs_are c.diffs is.0.diffs parts.left parts.right;
+          conclusion = fact_is c.conclusion is.0.conclusion.0 parts.conclusion own.0.conclusion;
         },
-        clauses_are cs is.1 numbers.1,
+        clauses_are cs is.1 numbers.1 own.1,
       )
 
 -- Rows.
@@ -145,6 +181,10 @@ few_begin [] n none = omega arith
 few_begin (y ∷ ys) zero none = absurd (cc)
 few_begin (y ∷ ys) (suc n) none = let later = few_begin ys n none in omega (arith, later)
 
+-- what is meant by a clause stands as it does
+meant_right : (c : SpelledClause Term) → StandsRight c → StandsRight (meant_clause c)
+meant_right c right = record { hypotheses = right.hypotheses; conclusion = right.conclusion }
+
 -- The certificate.
 
 module _ (P : Protocol) (names : HasNames P) (at : ℕ) (c : LooseCertificate) (grammar : IsInGrammar c) (none : (code : Code) → places P at c code ≡ []) where
@@ -193,21 +233,24 @@ module _ (P : Protocol) (names : HasNames P) (at : ℕ) (c : LooseCertificate) (
   no_large : clause_larges P at c ≡ []
   no_large = second_empty (flat_map (node_larges P) (all_nodes P at c)) (clause_larges P at c) (none NodeLarge)
 
+  no_symbol : clause_symbols P at c ≡ []
+  no_symbol = second_empty (flat_map (node_symbols P) (all_nodes P at c)) (clause_symbols P at c) (none Symbol)
+
   no_arity : item_arities P [] (all_items at c) ≡ []
   no_arity =
-      let others = clause_numbers at c ++ clause_orders P at c ++ clause_larges P at c in
-      let empty : others ≡ [] = ap (λ ys. ys ++ clause_orders P at c ++ clause_larges P at c) no_clause_number ∙ (ap (λ ys. [] ++ ys ++ clause_larges P at c) no_order ∙ ap (λ ys. [] ++ [] ++ ys) no_large) in
+      let others = clause_numbers at c ++ clause_symbols P at c ++ clause_orders P at c ++ clause_larges P at c in
+      let empty : others ≡ [] = ap (λ ys. ys ++ clause_symbols P at c ++ clause_orders P at c ++ clause_larges P at c) no_clause_number ∙ (ap (λ ys. [] ++ ys ++ clause_orders P at c ++ clause_larges P at c) no_symbol ∙ (ap (λ ys. [] ++ [] ++ ys ++ clause_larges P at c) no_order ∙ ap (λ ys. [] ++ [] ++ [] ++ ys) no_large)) in
       subst (λ ys. item_arities P ys (all_items at c) ≡ []) empty (second_empty (flat_map (node_arities P) (all_nodes P at c)) (item_arities P others (all_items at c)) (none Arity))
 
-  good : AllByRecursion (IsGood P) (all_items at c)
-  good = items_good P (all_items at c) no_clause_number (second_empty (flat_map (node_symbols P) (all_nodes P at c)) (flat_map (item_symbols P) (all_items at c)) (none Symbol)) no_arity
+  good : AllByRecursion (IsGood P (table_of P c)) (all_items at c)
+  good = items_good P (table_of P c) (all_items at c) no_clause_number no_symbol no_arity
 
   nodes_clear : AllByRecursion (HasNone P) (all_nodes P at c)
   unfolding node_digits all_node_orders
   nodes_clear = together (all_nodes P at c)
       (each_empty (node_numbers P) (all_nodes P at c) (first_empty node_digits (clause_numbers at c) node_and_clause_digits))
-      (each_empty (node_symbols P) (all_nodes P at c) (first_empty (flat_map (node_symbols P) (all_nodes P at c)) (flat_map (item_symbols P) (all_items at c)) (none Symbol)))
-      (each_empty (node_arities P) (all_nodes P at c) (first_empty (flat_map (node_arities P) (all_nodes P at c)) (item_arities P (clause_numbers at c ++ clause_orders P at c ++ clause_larges P at c) (all_items at c)) (none Arity)))
+      (each_empty (node_symbols P) (all_nodes P at c) (first_empty (flat_map (node_symbols P) (all_nodes P at c)) (clause_symbols P at c) (none Symbol)))
+      (each_empty (node_arities P) (all_nodes P at c) (first_empty (flat_map (node_arities P) (all_nodes P at c)) (item_arities P (clause_numbers at c ++ clause_symbols P at c ++ clause_orders P at c ++ clause_larges P at c) (all_items at c)) (none Arity)))
       (each_empty (node_orders P) (all_nodes P at c) (first_empty all_node_orders (clause_orders P at c) both_orders))
       (each_empty (node_larges P) (all_nodes P at c) (first_empty (flat_map (node_larges P) (all_nodes P at c)) (clause_larges P at c) (none NodeLarge)))
     where
@@ -218,8 +261,8 @@ module _ (P : Protocol) (names : HasNames P) (at : ℕ) (c : LooseCertificate) (
   nodes : AreNodes P names [] c.nodes
   nodes = nodes_stand P names (nodes_place at) 1 [] c.nodes refl tt nodes_clear
 
-  clauses : ClausesFound P c.clauses
-  clauses = clauses_found P (clauses_place at c) c.clauses grammar.clauses good
+  clauses : ClausesFound P (table_of P c) c.clauses
+  clauses = clauses_found P (table_of P c) (clauses_place at c) c.clauses grammar.clauses good
 
   covers : RowsFound c.rows
   covers = rows_found (rows_place at c) 114 c.rows grammar.rows no_cover_number
@@ -245,11 +288,11 @@ module _ (P : Protocol) (names : HasNames P) (at : ℕ) (c : LooseCertificate) (
   unfolding own_items
   own_items_are = let text = clauses.text in ap (clause_items (clauses_place at c)) (sym text)
 
-  own_good : AllByRecursion (IsGood P) own_items
-  own_good = subst (AllByRecursion (IsGood P)) own_items_are good
+  own_good : AllByRecursion (IsGood P all) own_items
+  own_good = subst (λ ts. AllByRecursion (IsGood P ts) own_items) table_is (subst (AllByRecursion (IsGood P (table_of P c))) own_items_are good)
 
   numbers : List ℕ
-  numbers = flat_map terms_of (flat_map in_order clauses.found)
+  numbers = flat_map spelled_terms clauses.found
 
   values : flat_map item_values own_items ≡ numbers
   unfolding own_items numbers
@@ -286,11 +329,11 @@ module _ (P : Protocol) (names : HasNames P) (at : ℕ) (c : LooseCertificate) (
       let same : written P by_numbers ≡ c = λ i. record { nodes = first i; clauses = second i; rows = third i; goals = fourth i } in
       ap (written P) back ∙ same
 
-  terms_of_protocol : AllByRecursion (IsTermOf P) all
+  terms_of_protocol : AllByRecursion (IsSide P) all
   unfolding all
   terms_of_protocol = all_terms_are P [] nodes.found tt nodes.are nodes.order
 
-  within : ClausesWithin all P 0 (map (map_clause (term_at all)) clauses.found)
+  within : ClausesWithin all P 0 (map (λ d. meant_clause (map_spelled (term_at all) d)) clauses.found)
   unfolding own_items
   within =
       let told : item_larges all 0 0 own_items ≡ [] = ap (λ ts. item_larges ts 0 0 own_items) (sym table_is) ∙ (ap (item_larges (table_of P c) 0 0) (sym own_items_are) ∙ no_large) in
@@ -302,15 +345,16 @@ module _ (P : Protocol) (names : HasNames P) (at : ℕ) (c : LooseCertificate) (
       let walked = ordered.walked in
       let begun = few_begin (flat_map item_begins own_items) most_clauses (subst (λ is. take 1 (drop most_clauses (flat_map item_begins is)) ≡ []) own_items_are (none Count)) in
       let counted = clause_begins P (clauses_place at c) clauses.found in
-      let many : length (map (map_clause (term_at all)) clauses.found) ≡ length clauses.found = length-map clauses.found (map_clause (term_at all)) in
+      let many : length (map (λ d. meant_clause (map_spelled (term_at all) d)) clauses.found) ≡ length clauses.found = length-map clauses.found (λ d. meant_clause (map_spelled (term_at all) d)) in
       let so_many : length all ≡ length nodes.found = as_many nodes.found in
       record {
         is = record {
-          clauses = clauses_are P all terms_of_protocol clauses.found clauses.are (subst (λ m. AllByRecursion (HasNumbersOf m) clauses.found) (sym so_many) ordered.clauses);
+          clauses = clauses_are P all terms_of_protocol clauses.found clauses.are (subst (λ m. AllByRecursion (HasNumbersOf m) clauses.found) (sym so_many) ordered.clauses)
+              (subst (λ us. AllByRecursion (HasOwnNumbers us) clauses.found) table_is clauses.own);
           rows = all_weaker IsRow (AllByRecursion IsShort) row_short covers.found covers.are;
           goals = all_weaker IsRow (AllByRecursion IsShort) row_short goals.found goals.are;
         };
-        stands = mapped_all StandsRight StandsRight (map_clause (term_at all)) (clause_mapped (term_at all)) clauses.found clauses.stand;
+        stands = mapped_all StandsRight StandsRight (λ d. meant_clause (map_spelled (term_at all) d)) (λ d right. meant_right (map_spelled (term_at all) d) (clause_mapped (term_at all) d right)) clauses.found clauses.stand;
         fits = record { nodes = subst (AllByRecursion (λ t. size t ≤ most_symbols)) (sym walked) nodes.small; clauses = within.small; together = within.together };
         few = omega (arith, begun, counted, many);
         rows = covers.are;

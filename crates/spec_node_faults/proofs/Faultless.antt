@@ -6,13 +6,13 @@ use Rattle.std.specs.List.{AllByRecursion}
 use Rattle.spec_calculus.specs.Bounds.{most_clauses}
 use Rattle.spec_calculus.specs.Syntax.{Protocol}
 use Rattle.spec_terms.specs.Term.{Term}
-use Rattle.spec_clauses.specs.Fact.{terms_of, map_clause}
 use Rattle.spec_clauses.specs.Inclusion.{Has}
 use Rattle.spec_clauses.proofs.Lists.{all_weaker, all-flat_map}
 use Rattle.spec_certificates.specs.Certificate.{Certificate}
-use Rattle.spec_certificate_text.specs.OfProtocol.{IsShort, IsClauseOf, IsCertificateOf, HasNames}
+use Rattle.spec_certificate_text.specs.OfProtocol.{IsShort, IsCertificateOf, HasNames}
+use Rattle.spec_certificate_text.specs.Sides.{spelled_clause, map_spelled}
 use Rattle.std.proofs.lemmas.List.{length-map}
-use Rattle.spec_node_tables.specs.Table.{facts_in_order, terms_in_order, table, number_in}
+use Rattle.spec_node_tables.specs.Table.{spelled_terms, terms_in_order, table, number_in}
 use Rattle.spec_node_tables.specs.Nodes.{node_of, with_nodes}
 use Rattle.spec_node_tables.specs.OfProtocol.{IsNodeOf}
 use Rattle.spec_node_tables.specs.Large.{FitsInNodes}
@@ -26,10 +26,11 @@ use Rattle.spec_node_faults.specs.Loose.{LooseCertificate, row_line, written}
 use Rattle.spec_node_faults.specs.Nodes.{place_if, node_numbers, node_symbols, node_arities, node_orders, node_larges}
 use Rattle.spec_node_faults.specs.Clauses.{item_symbols, item_arities, item_orders, item_larges, has_unreached}
 use Rattle.spec_certificate_text.specs.Terms.{Code, Syntax, Number, Symbol, Arity, Count, NodeOrder, NodeLarge}
-use Rattle.spec_node_faults.specs.Faults.{nodes_place, clauses_place, rows_place, goals_place, table_of, all_nodes, all_items, row_numbers, clause_numbers, clause_orders, clause_larges, places}
+use Rattle.spec_node_faults.specs.Faults.{nodes_place, clauses_place, rows_place, goals_place, table_of, all_nodes, all_items, row_numbers, clause_numbers, clause_symbols, clause_orders, clause_larges, places}
 use Rattle.spec_node_faults.proofs.Meant.{terms_meant_are}
 use Rattle.spec_node_faults.proofs.Clear as nodes
-use Rattle.spec_node_faults.proofs.Clear.{none_of, not_placed, IsClear, nodes_clear}
+use Rattle.spec_node_faults.proofs.Clear.{none_of, IsClear, nodes_clear}
+use Rattle.spec_node_faults.proofs.Own.{clauses_own}
 use Rattle.spec_node_faults.proofs.Items.{IsGood, good_clauses, numbers_clear, symbols_clear, arities_clear, counts_clear, clause_values}
 use Rattle.spec_node_faults.proofs.Orders.{clauses_in_order, all_reached}
 use Rattle.spec_node_faults.proofs.Sums.{IsCounted, clauses_summed}
@@ -59,32 +60,31 @@ module _ (P : Protocol) (names : HasNames P) (c : Certificate) (is : IsCertifica
   unfolding loose
   all_clear = nodes_clear P names (table c.clauses) [] (table c.clauses) (nodes_place at) 1 refl refl (table_first c.clauses) (apart_nothing (table c.clauses)) (table_distinct c.clauses) nodes_are fits.nodes
 
-  all_good : AllByRecursion (IsGood P) (all_items at loose)
-  unfolding loose
-  all_good = good_clauses P names (clauses_place at (written P (with_nodes c))) (map (map_clause (number_in (table c.clauses))) c.clauses) (with_nodes_is P c is few).clauses
-
   stand : AllByRecursion (Has (table c.clauses)) (terms_in_order c.clauses)
-  stand = all-flat_map (Has (table c.clauses)) terms_of (flat_map facts_in_order c.clauses) (all-flat_map (λ f. AllByRecursion (Has (table c.clauses)) (terms_of f)) facts_in_order c.clauses (terms_stand c.clauses))
+  stand = all-flat_map (Has (table c.clauses)) (λ d. spelled_terms (spelled_clause d)) c.clauses (terms_stand c.clauses)
+
+  all_good : AllByRecursion (IsGood P (table c.clauses)) (all_items at loose)
+  unfolding loose
+  all_good = good_clauses P names (table c.clauses) (clauses_place at (written P (with_nodes c))) (map (λ d. map_spelled (number_in (table c.clauses)) (spelled_clause d)) c.clauses) (with_nodes_is P c is few).clauses (clauses_own P c.clauses c.clauses is.clauses (terms_stand c.clauses))
 
   clause_orders_clear : clause_orders P at loose ≡ []
   unfolding loose
   clause_orders_clear =
       ap (λ ts. item_orders ts [] (all_items at loose)) table_is
       ∙ clauses_in_order P c.clauses stand (all_items at loose) all_good
-      (clause_values P (clauses_place at (written P (with_nodes c))) (map (map_clause (number_in (table c.clauses))) c.clauses) (with_nodes_is P c is few).clauses)
+      (clause_values P (clauses_place at (written P (with_nodes c))) (map (λ d. map_spelled (number_in (table c.clauses)) (spelled_clause d)) c.clauses) (with_nodes_is P c is few).clauses)
 
   reached : has_unreached (table_of P loose) (all_items at loose) ≡ false
   unfolding loose
   reached =
       ap (λ ts. has_unreached ts (all_items at loose)) table_is
       ∙ all_reached P c.clauses stand (all_items at loose) all_good
-      (clause_values P (clauses_place at (written P (with_nodes c))) (map (map_clause (number_in (table c.clauses))) c.clauses) (with_nodes_is P c is few).clauses)
+      (clause_values P (clauses_place at (written P (with_nodes c))) (map (λ d. map_spelled (number_in (table c.clauses)) (spelled_clause d)) c.clauses) (with_nodes_is P c is few).clauses)
 
-  counted : AllByRecursion (λ d. AllByRecursion (λ f. AllByRecursion (IsCounted (table c.clauses)) (terms_of f)) (facts_in_order d)) c.clauses
+  counted : AllByRecursion (λ d. AllByRecursion (IsCounted (table c.clauses)) (spelled_terms (spelled_clause d))) c.clauses
   counted =
-      all_weaker (λ d. AllByRecursion (λ f. AllByRecursion (Has (table c.clauses)) (terms_of f)) (facts_in_order d)) (λ d. AllByRecursion (λ f. AllByRecursion (IsCounted (table c.clauses)) (terms_of f)) (facts_in_order d))
-      (λ d. all_weaker (λ f. AllByRecursion (Has (table c.clauses)) (terms_of f)) (λ f. AllByRecursion (IsCounted (table c.clauses)) (terms_of f)) (λ f. all_weaker (Has (table c.clauses)) (IsCounted (table c.clauses)) one (terms_of f)) (facts_in_order d))
-      c.clauses (terms_stand c.clauses)
+      all_weaker (λ d. AllByRecursion (Has (table c.clauses)) (spelled_terms (spelled_clause d))) (λ d. AllByRecursion (IsCounted (table c.clauses)) (spelled_terms (spelled_clause d)))
+      (λ d. all_weaker (Has (table c.clauses)) (IsCounted (table c.clauses)) one (spelled_terms (spelled_clause d))) c.clauses (terms_stand c.clauses)
     where
       one : (t : Term) → Has (table c.clauses) t → IsCounted (table c.clauses) t
       one t h = let within = place_within (table c.clauses) t h in let all = few in record { there = h; short = omega arith }
@@ -93,14 +93,13 @@ module _ (P : Protocol) (names : HasNames P) (c : Certificate) (is : IsCertifica
   unfolding loose
   clause_larges_clear =
       ap (λ ts. item_larges ts 0 0 (all_items at loose)) table_is
-      ∙ clauses_summed (table c.clauses) P c.clauses 0 0 (clauses_place at (written P (with_nodes c))) counted
-      (all_weaker (IsClauseOf P) (λ d. d.diffs ≡ []) (λ d one. one.diffs) c.clauses is.clauses) fits.clauses fits.together
+      ∙ clauses_summed (table c.clauses) P c.clauses 0 0 (clauses_place at (written P (with_nodes c))) counted fits.clauses fits.together
 
   numbers_none : places P at loose Number ≡ []
   unfolding loose
   numbers_none =
       let first = none_of (node_numbers P) (all_nodes P at loose) (all_weaker (IsClear P names) (λ x. node_numbers P x ≡ []) (λ x clear. clear.numbers) (all_nodes P at loose) all_clear) in
-      let second = numbers_clear P names (all_items at loose) all_good in
+      let second = numbers_clear P names (table c.clauses) (all_items at loose) all_good in
       let third = rows_clear (rows_place at loose) 114 c.rows is.rows in
       let fourth = rows_clear (goals_place at loose) 103 c.goals is.goals in
       ap (λ ys. ys ++ clause_numbers at loose ++ row_numbers (rows_place at loose) 114 loose.rows ++ row_numbers (goals_place at loose) 103 loose.goals) first
@@ -108,22 +107,25 @@ module _ (P : Protocol) (names : HasNames P) (c : Certificate) (is : IsCertifica
       ∙ (ap (λ ys. [] ++ [] ++ ys ++ row_numbers (goals_place at loose) 103 loose.goals) third
       ∙ ap (λ ys. [] ++ [] ++ [] ++ ys) fourth))
 
+  clause_symbols_clear : clause_symbols P at loose ≡ []
+  clause_symbols_clear = ap (λ ts. flat_map (item_symbols P ts) (all_items at loose)) table_is ∙ symbols_clear P names (table c.clauses) (all_items at loose) all_good
+
   symbols_none : places P at loose Symbol ≡ []
   symbols_none =
       let first = none_of (node_symbols P) (all_nodes P at loose) (all_weaker (IsClear P names) (λ x. node_symbols P x ≡ []) (λ x clear. clear.symbols) (all_nodes P at loose) all_clear) in
-      ap (λ ys. ys ++ flat_map (item_symbols P) (all_items at loose)) first ∙ symbols_clear P names (all_items at loose) all_good
+      ap (λ ys. ys ++ clause_symbols P at loose) first ∙ clause_symbols_clear
 
   arities_none : places P at loose Arity ≡ []
   arities_none =
       let first = none_of (node_arities P) (all_nodes P at loose) (all_weaker (IsClear P names) (λ x. node_arities P x ≡ []) (λ x clear. clear.arities) (all_nodes P at loose) all_clear) in
-      let others = clause_numbers at loose ++ clause_orders P at loose ++ clause_larges P at loose in
-      ap (λ ys. ys ++ item_arities P others (all_items at loose)) first ∙ arities_clear P names others (all_items at loose) all_good
+      let others = clause_numbers at loose ++ clause_symbols P at loose ++ clause_orders P at loose ++ clause_larges P at loose in
+      ap (λ ys. ys ++ item_arities P others (all_items at loose)) first ∙ arities_clear P names (table c.clauses) others (all_items at loose) all_good
 
   counts_none : length c.clauses ≤ most_clauses → places P at loose Count ≡ []
   unfolding loose
   counts_none most =
-      let mapped = length-map c.clauses (map_clause (number_in (table c.clauses))) in
-      counts_clear P (clauses_place at (written P (with_nodes c))) (map (map_clause (number_in (table c.clauses))) c.clauses) (omega arith)
+      let mapped = length-map c.clauses (λ d. map_spelled (number_in (table c.clauses)) (spelled_clause d)) in
+      counts_clear P (clauses_place at (written P (with_nodes c))) (map (λ d. map_spelled (number_in (table c.clauses)) (spelled_clause d)) c.clauses) (omega arith)
 
   orders_none : places P at loose NodeOrder ≡ []
   orders_none =

@@ -1,5 +1,5 @@
 -- Nodes without faults are those of a table in its order, written with the words of the protocol.
-use Rattle.std.proofs.Common.{◌≡◌, ℕ, suc, ◌+◌, ◌<◌, ◌≤◌, Bool, true, false, not, ◌&&◌, ◌||◌, ◌==◌, nat_le, List, [], ◌∷◌, ◌++◌, map, length, drop, Option, Some, None, refl, sym, ◌∙◌, ap, subst, arith, length-append}
+use Rattle.std.proofs.Common.{◌≡◌, ℕ, suc, ◌+◌, ◌-◌, ◌<◌, ◌≤◌, Bool, true, false, not, ◌&&◌, ◌||◌, ◌==◌, nat_le, List, [], ◌∷◌, ◌++◌, map, length, drop, Option, Some, None, refl, sym, ◌∙◌, ap, subst, arith, length-append}
 use Rattle.std.specs.Prelude.{flat_map, option_and_then}
 use Rattle.std.specs.Fmt.{decimal}
 use Rattle.std.specs.Option.{is_none, option_map_or}
@@ -16,10 +16,13 @@ use Rattle.spec_terms.specs.Term.{Sym, Ctor, Data, Tuple, Free, Point, Attacker,
 use Rattle.spec_clauses.specs.Fact.{same_term}
 use Rattle.spec_clauses.proofs.Lists.{all_append}
 use Rattle.spec_certificate_text.specs.Loose.{Head, Applied, Tupled, Made, Attackers}
+use Rattle.spec_certificate_text.specs.Sides.{first_bound, variable_word}
 use Rattle.spec_certificate_text.specs.Words.{symbol_word}
 use Rattle.spec_certificate_text.specs.OfProtocol.{IsShort, IsSymbolOf, IsRestriction, HasNames}
 use Rattle.spec_certificate_text.specs.Names.{Named, symbol_called, name_called}
 use Rattle.spec_certificate_text.proofs.Named.{IsWorded, symbol_called_is, name_called_is}
+use Rattle.spec_certificate_text.proofs.Sides.{own_word, bound_word}
+use Rattle.spec_certificate_text.proofs.Sound.{same_byte}
 use Rattle.spec_certificate_text.proofs.SoundWords.{variable_rest}
 use Rattle.spec_node_tables.specs.Nodes.{TableNode, Variable, Over, term_of, terms_from}
 use Rattle.spec_node_tables.specs.Text.{symbol_head}
@@ -28,7 +31,7 @@ use Rattle.spec_node_tables.specs.OfProtocol.{IsNodeOf}
 use Rattle.spec_node_tables.specs.Large.{is_over}
 use Rattle.spec_node_tables.specs.Order.{IsNumberOf, StandInOrder}
 use Rattle.spec_node_faults.specs.Loose.{LooseNode, node_line, written_node}
-use Rattle.spec_node_faults.specs.Nodes.{Placed, placed, place_if, no_number, NodeAt, nodes_at, is_variable_alone, head_digits, arguments_at, is_unknown, not_below, is_misapplied, is_empty, arguments_stand, is_whole, meant, node_numbers, node_symbols, node_arities, node_orders, node_larges, terms_meant}
+use Rattle.spec_node_faults.specs.Nodes.{Placed, placed, place_if, no_number, NodeAt, nodes_at, is_bound, is_variable_alone, head_digits, arguments_at, is_unknown, not_below, is_misapplied, is_empty, arguments_stand, is_whole, meant, node_numbers, node_symbols, node_arities, node_orders, node_larges, terms_meant}
 use Rattle.spec_node_faults.proofs.Meant.{meant_is}
 
 -- Lists that are empty.
@@ -148,8 +151,21 @@ module _ (P : Protocol) (own : ℕ) where
   variable at word is digits =
       let p : Placed = record { place = at + 1; digits = drop 1 word } in
       let one = digits_are p (first_empty (no_number p) [] digits) in
-      let so : 118 ∷ decimal one.number ≡ word = ap (λ ds. 118 ∷ ds) one.text ∙ sym (variable_rest word is) in
-      record { found = Variable one.number; text = λ i. record { head = Applied (so i); numbers = [] }; is = one.short; below = tt }
+      let so : variable_word one.number ≡ word = own_word one.number one.short ∙ (ap (λ ds. 118 ∷ ds) one.text ∙ sym (variable_rest word is)) in
+      let small = one.short in
+      record { found = Variable one.number; text = λ i. record { head = Applied (so i); numbers = [] }; is = omega (arith, small); below = tt }
+
+  bound : (at : ℕ) (word : List ℕ) → is_bound word ≡ true → flat_map no_number (record { place = at + 1; digits = drop 1 word } ∷ []) ≡ [] → IsWritten P own (record { head = Applied word; numbers = [] })
+  bound at [] is digits = absurd (cc)
+  bound at (b ∷ ds) is digits =
+      let p : Placed = record { place = at + 1; digits = ds } in
+      let one = digits_are p (first_empty (no_number p) [] digits) in
+      let i = one.number in
+      let over : first_bound ≤ first_bound + i = omega arith in
+      let back : (first_bound + i) - first_bound ≡ i = omega arith in
+      let so : variable_word (first_bound + i) ≡ b ∷ ds = bound_word (first_bound + i) over ∙ (ap (λ n. 63 ∷ decimal n) back ∙ (ap (λ k. 63 ∷ k) one.text ∙ ap (λ c. c ∷ ds) (sym (same_byte b 63 is)))) in
+      let small = one.short in
+      record { found = Variable (first_bound + i); text = λ j. record { head = Applied (so j); numbers = [] }; is = omega (arith, small); below = tt }
 
   applied : (word : List ℕ) (ds : List (List ℕ)) → LowerNumbers own ds → is_none (symbol_called P word) ≡ false → option_map_or (λ called. not (called.arity == length ds)) (symbol_called P word) false ≡ false → IsWritten P own (record { head = Applied word; numbers = ds })
   applied word ds low known right =
@@ -195,12 +211,13 @@ module _ (P : Protocol) (own : ℕ) where
   -- a head and numbers without faults
   node_is : (at : ℕ) (head : Head) (ds : List (List ℕ)) → LowerNumbers own ds → flat_map no_number (head_digits at head (is_variable_alone head ds)) ≡ [] → is_unknown P head ds ≡ false → is_misapplied P head ds ≡ false
       → IsWritten P own (record { head = head; numbers = ds })
-  node_is at (Applied word) [] low digits known right = by (is_variable word) refl digits known right
+  node_is at (Applied word) [] low digits known right = by (is_variable word) refl (is_bound word) refl digits known right
     where
-      by : (b : Bool) → is_variable word ≡ b → flat_map no_number (head_digits at (Applied word) b) ≡ [] → (not b && is_none (symbol_called P word)) ≡ false
-          → (not b && option_map_or (λ called. not (called.arity == 0)) (symbol_called P word) false) ≡ false → IsWritten P own (record { head = Applied word; numbers = [] })
-      by true is numbers known right = variable at word is numbers
-      by false is numbers known right = applied word [] low known right
+      by : (a : Bool) → is_variable word ≡ a → (b : Bool) → is_bound word ≡ b → flat_map no_number (head_digits at (Applied word) (a || b)) ≡ [] → (not (a || b) && is_none (symbol_called P word)) ≡ false
+          → (not (a || b) && option_map_or (λ called. not (called.arity == 0)) (symbol_called P word) false) ≡ false → IsWritten P own (record { head = Applied word; numbers = [] })
+      by true is b other numbers known right = variable at word is numbers
+      by false no_variable true is numbers known right = bound at word is numbers
+      by false no_variable false no_bound numbers known right = applied word [] low known right
   node_is at (Applied word) (d ∷ ds) low digits known right = applied word (d ∷ ds) low known right
   node_is at Tupled ds low digits known right = tuple ds low right
   node_is at (Made word number) ds low digits known right =

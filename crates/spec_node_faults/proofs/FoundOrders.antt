@@ -3,25 +3,25 @@ use Rattle.std.proofs.Common.{◌≡◌, ℕ, true, false, not, ◌&&◌, ◌||�
 use Rattle.std.specs.Prelude.{flat_map}
 use Rattle.std.specs.Option.{option_map_or}
 use Rattle.std.specs.List.{AllByRecursion}
-use Rattle.std.proofs.lemmas.List.{append_assoc, append-nil, map-append}
+use Rattle.std.proofs.lemmas.List.{append_assoc, append-nil}
 use Rattle.std.proofs.lemmas.Bool.Decides.{nat_tests}
 use Rattle.spec_calculus.specs.Syntax.{Protocol}
 use Rattle.spec_terms.specs.Term.{Term}
-use Rattle.spec_clauses.specs.Fact.{Fact, Clause, terms_of, map_fact, map_clause, same_term}
+use Rattle.spec_clauses.specs.Fact.{same_term}
 use Rattle.spec_clauses.proofs.Equality.{same_term-decides}
-use Rattle.spec_clauses.proofs.Parts.{terms_of-map}
 use Rattle.spec_clauses.proofs.Lists.{all-from_flat_map}
-use Rattle.spec_node_tables.specs.Table.{facts_in_order, terms_in_order}
+use Rattle.spec_node_tables.specs.Table.{spelled_terms}
 use Rattle.spec_node_tables.specs.Nodes.{NodeCertificate, term_at, terms_from}
 use Rattle.spec_node_tables.specs.Order.{IsNumberOf, StandInOrder, IsInOrder}
 use Rattle.spec_node_faults.specs.Nodes.{place_if}
-use Rattle.spec_node_faults.specs.Clauses.{Item, Begins, Signs, Event, Entry, Phase, Number, is_front, completed, is_out_of_order, item_orders}
-use Rattle.spec_node_faults.proofs.Items.{IsGood, item_values, in_order}
+use Rattle.spec_node_faults.specs.Clauses.{Item, Begins, Signs, Event, Entry, Phase, Paired, Number, Side, is_front, completed, is_out_of_order, item_orders}
+use Rattle.spec_node_faults.proofs.Items.{IsGood, item_values}
+use Rattle.spec_node_faults.proofs.Spelled.{terms_meant_in_order}
 use Rattle.spec_node_faults.proofs.Orders.{InOrder}
 use Rattle.spec_node_faults.proofs.FoundNodes.{first_empty, second_empty, not_wrong}
 
 module _ (P : Protocol) where
-  pub orders_told : (all ts : List Term) (items : List Item) → AllByRecursion (IsGood P) items → item_orders all ts items ≡ [] → InOrder all ts (flat_map item_values items)
+  pub orders_told : (all ts : List Term) (items : List Item) → AllByRecursion (IsGood P all) items → item_orders all ts items ≡ [] → InOrder all ts (flat_map item_values items)
   unfolding IsGood
   orders_told all ts [] good none = tt
   orders_told all ts (Begins place ∷ items) good none = orders_told all ts items good.1 none
@@ -29,8 +29,18 @@ module _ (P : Protocol) where
   orders_told all ts (Event place word arguments ∷ items) good none = orders_told all ts items good.1 none
   orders_told all ts (Entry place word arguments ∷ items) good none = orders_told all ts items good.1 none
   orders_told all ts (Phase p ∷ items) good none = orders_told all ts items good.1 none
+  orders_told all ts (Paired place left right ∷ items) good none = orders_told all ts items good.1 none
   orders_told all ts (Number p ∷ items) good none =
-      let (n, e) = good.0 in
+      let n = good.0.0 in
+      let e = good.0.1 in
+      let one = place_if (is_out_of_order all ts n) p.place in
+      let later = item_orders all (ts ++ (term_at all n ∷ [])) items in
+      let both : one ++ later ≡ [] = subst (λ o. option_map_or (λ m. place_if (is_out_of_order all ts m) p.place ++ item_orders all (ts ++ (term_at all m ∷ [])) items) o (item_orders all ts items) ≡ []) e none in
+      let steps : InOrder all ts (n ∷ flat_map item_values items) = (not_wrong (is_out_of_order all ts n) p.place (first_empty one later both), orders_told all (ts ++ (term_at all n ∷ [])) items good.1 (second_empty one later both)) in
+      subst (λ o. InOrder all ts (option_map_or (λ m. m ∷ []) o [] ++ flat_map item_values items)) (sym e) steps
+  orders_told all ts (Side p ∷ items) good none =
+      let n = good.0.0 in
+      let e = good.0.1 in
       let one = place_if (is_out_of_order all ts n) p.place in
       let later = item_orders all (ts ++ (term_at all n ∷ [])) items in
       let both : one ++ later ≡ [] = subst (λ o. option_map_or (λ m. place_if (is_out_of_order all ts m) p.place ++ item_orders all (ts ++ (term_at all m ∷ [])) items) o (item_orders all ts items) ≡ []) e none in
@@ -77,35 +87,16 @@ fronts_same (t ∷ ts) (u ∷ us) one other =
     both_second true b e = e
     both_second false b e = absurd (cc)
 
--- The terms of clauses by numbers are those of their numbers.
-
-facts_meant : (f : ℕ → Term) (fs : List (Fact ℕ)) → flat_map terms_of (map (map_fact f) fs) ≡ map f (flat_map terms_of fs)
-facts_meant f [] = refl
-facts_meant f (h ∷ hs) =
-    ap (λ zs. zs ++ flat_map terms_of (map (map_fact f) hs)) (terms_of-map f h)
-    ∙ (ap (λ zs. map f (terms_of h) ++ zs) (facts_meant f hs) ∙ sym (map-append f (terms_of h) (flat_map terms_of hs)))
-
-ordered_meant : (f : ℕ → Term) (cs : List (Clause ℕ)) → flat_map facts_in_order (map (map_clause f) cs) ≡ map (map_fact f) (flat_map in_order cs)
-ordered_meant f [] = refl
-ordered_meant f (c ∷ cs) =
-    ap (λ zs. facts_in_order (map_clause f c) ++ zs) (ordered_meant f cs)
-    ∙ (ap (λ zs. zs ++ map (map_fact f) (flat_map in_order cs)) (sym (map-append (map_fact f) c.hypotheses (c.conclusion ∷ [])))
-    ∙ sym (map-append (map_fact f) (in_order c) (flat_map in_order cs)))
-
-terms_meant_in_order : (f : ℕ → Term) (cs : List (Clause ℕ)) → terms_in_order (map (map_clause f) cs) ≡ map f (flat_map terms_of (flat_map in_order cs))
-terms_meant_in_order f cs = ap (flat_map terms_of) (ordered_meant f cs) ∙ facts_meant f (flat_map in_order cs)
-
 -- a certificate by numbers whose nodes and numbers stand in order, and of which all nodes are reached
-pub order_told : (c : NodeCertificate) → StandInOrder [] c.nodes → length (terms_from [] c.nodes) ≡ length c.nodes → InOrder (terms_from [] c.nodes) [] (flat_map terms_of (flat_map in_order c.clauses))
-    → is_front (terms_from [] c.nodes) (completed (map (term_at (terms_from [] c.nodes)) (flat_map terms_of (flat_map in_order c.clauses)))) ≡ true → IsInOrder c
+pub order_told : (c : NodeCertificate) → StandInOrder [] c.nodes → length (terms_from [] c.nodes) ≡ length c.nodes → InOrder (terms_from [] c.nodes) [] (flat_map spelled_terms c.clauses)
+    → is_front (terms_from [] c.nodes) (completed (map (term_at (terms_from [] c.nodes)) (flat_map spelled_terms c.clauses))) ≡ true → IsInOrder c
 order_told c nodes many order reached =
     let all = terms_from [] c.nodes in
-    let ns = flat_map terms_of (flat_map in_order c.clauses) in
+    let ns = flat_map spelled_terms c.clauses in
     let numbers : AllByRecursion (IsNumberOf (length c.nodes)) ns = subst (λ m. AllByRecursion (IsNumberOf m) ns) many (numbers_of_table all [] ns order) in
-    let facts = all-from_flat_map (IsNumberOf (length c.nodes)) terms_of (flat_map in_order c.clauses) numbers in
     let same : completed (map (term_at all) ns) ≡ all = fronts_same (completed (map (term_at all) ns)) all (all_front all [] ns refl order) reached in
     record {
       nodes = nodes;
-      clauses = all-from_flat_map (λ f. AllByRecursion (IsNumberOf (length c.nodes)) (terms_of f)) in_order c.clauses facts;
+      clauses = all-from_flat_map (IsNumberOf (length c.nodes)) spelled_terms c.clauses numbers;
       walked = ap completed (terms_meant_in_order (term_at all) c.clauses) ∙ same;
     }

@@ -2,7 +2,9 @@ pub mod Written
 pub mod Meant
 pub mod Clear
 pub mod Items
+pub mod Spelled
 pub mod Orders
+pub mod Own
 pub mod Sums
 pub mod Faultless
 pub mod First

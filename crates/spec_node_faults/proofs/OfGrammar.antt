@@ -1,5 +1,5 @@
 -- What is written with the words of a protocol is of the grammar.
-use Rattle.std.proofs.Common.{ℕ, List, [], ◌∷◌, map, length, refl, ◌∙◌, arith, zero, suc}
+use Rattle.std.proofs.Common.{ℕ, ◌⊎◌, inl, inr, List, [], ◌∷◌, map, length, refl, ◌∙◌, arith, zero, suc}
 use Rattle.std.specs.Fmt.{decimal}
 use Rattle.std.specs.Prelude.{IfSome}
 use Rattle.std.specs.List.{AllByRecursion}
@@ -7,22 +7,26 @@ use Rattle.std.proofs.lemmas.List.{length-map}
 use Rattle.std.proofs.lemmas.Fmt.{decimal_nonempty}
 use Rattle.spec_calculus.specs.Syntax.{Protocol}
 use Rattle.spec_terms.specs.Term.{Ctor, Data, Tuple, Free, Point, Attacker}
-use Rattle.spec_clauses.specs.Fact.{Fact, Clause}
+use Rattle.spec_clauses.specs.Fact.{Fact}
 use Rattle.spec_clauses.specs.Fact as fact
 use Rattle.spec_certificates.specs.Certificate.{Certificate}
 use Rattle.spec_certificate_text.specs.OfProtocol.{IsShort, HasNames}
+use Rattle.spec_certificate_text.specs.Sides.{variable_word, SidesOf, SpelledClause, spelled_clause, map_spelled}
+use Rattle.spec_certificate_text.specs.Loose.{Applied}
+use Rattle.spec_certificate_text.specs.Spelled.{IsWord, IsBoundWord}
 use Rattle.spec_certificate_text.proofs.Names.{decimal_digits, event_word_is_word, table_word_is_word}
+use Rattle.spec_certificate_text.proofs.Terms.{variable_is_loose}
 use Rattle.spec_certificate_text.specs.Readable.{IsRow}
 use Rattle.spec_node_tables.specs.Table.{table, number_in}
 use Rattle.spec_node_tables.specs.Nodes.{TableNode, Variable, Over, with_nodes}
 use Rattle.spec_node_tables.specs.Text.{node_head}
 use Rattle.spec_node_tables.specs.Text as short
-use Rattle.spec_node_tables.specs.OfProtocol.{IsNodeOf, IsFactOver, IsClauseOver}
-use Rattle.spec_node_tables.proofs.Lines.{node_head_is}
+use Rattle.spec_node_tables.specs.OfProtocol.{IsNodeOf, IsFactOver, AreSidesOver, IsClauseOver}
+use Rattle.spec_node_tables.proofs.Lines.{symbol_head_is}
 use Rattle.spec_node_tables.proofs.Certificates.{mapped_all, with_nodes_is}
 use Rattle.spec_node_tables.proofs.Sizes.{few_nodes}
-use Rattle.spec_node_faults.specs.Loose.{phase_digits, written_node, written_fact, written_clause, written}
-use Rattle.spec_node_faults.specs.Grammar.{IsNumber, IsHeadOf, IsNode, IsHypothesis, IsConclusion, IsClause, IsNumberRow, IsInGrammar, MayBeHypothesis, MayBeConclusion, StandsRight, IsNumberable}
+use Rattle.spec_node_faults.specs.Loose.{phase_digits, written_node, written_fact, written_diff, written_clause, written}
+use Rattle.spec_node_faults.specs.Grammar.{IsNumber, IsHeadOf, IsNode, IsHypothesis, IsConclusion, IsDiff, IsClause, IsNumberRow, IsInGrammar, MayBeHypothesis, MayBeConclusion, StandsRight, IsNumberable}
 
 number_is : (n : ℕ) → IsShort n → IsNumber (decimal n)
 number_is n small = (decimal_digits n small, let some = decimal_nonempty n (omega arith) in omega arith)
@@ -34,14 +38,18 @@ phase_is (suc k) small = number_is (suc k) small
 numbers_are : (ns : List ℕ) → AllByRecursion IsShort ns → AllByRecursion IsNumber (map decimal ns)
 numbers_are ns small = mapped_all IsShort IsNumber decimal number_is ns small
 
+variable_head : (word : List ℕ) → IsWord word ⊎ IsBoundWord word → IsHeadOf (Applied word) 0
+variable_head word (inl is) = inl is
+variable_head word (inr is) = inr (is, refl)
+
 module _ (P : Protocol) (names : HasNames P) where
   head_is : (n : TableNode) → IsNodeOf P n → IsHeadOf (node_head P n) (length (map decimal (short.node_numbers n)))
-  head_is (Variable x) is = node_head_is P names (Variable x) is
-  head_is (Over (Ctor f) ns) is = node_head_is P names (Over (Ctor f) ns) is
-  head_is (Over (Data f) ns) is = node_head_is P names (Over (Data f) ns) is
+  head_is (Variable x) is = variable_head (variable_word x) (variable_is_loose x is)
+  head_is (Over (Ctor f) ns) is = inl (symbol_head_is P names (Ctor f) (length ns) is.0)
+  head_is (Over (Data f) ns) is = inl (symbol_head_is P names (Data f) (length ns) is.0)
   head_is (Over (Tuple m) ns) is = tt
-  head_is (Over (Free a) ns) is = node_head_is P names (Over (Free a) ns) is
-  head_is (Over (Point p) ns) is = ((node_head_is P names (Over (Point p) ns) is).0, number_is p is.0.1)
+  head_is (Over (Free a) ns) is = inl (symbol_head_is P names (Free a) (length ns) is.0)
+  head_is (Over (Point p) ns) is = ((symbol_head_is P names (Point p) (length ns) is.0).0, number_is p is.0.1)
   head_is (Over Attacker ns) is = length-map ns decimal ∙ is.0
 
   short_numbers : (n : TableNode) → IsNodeOf P n → AllByRecursion IsShort (short.node_numbers n)
@@ -71,10 +79,27 @@ module _ (P : Protocol) (names : HasNames P) where
   hypotheses_are [] are may = tt
   hypotheses_are (f ∷ fs) are may = (hypothesis_is f are.0 may.0, hypotheses_are fs are.1 may.1)
 
-  clauses_are : (cs : List (Clause ℕ)) → AllByRecursion (IsClauseOver IsShort P) cs → AllByRecursion StandsRight cs → AllByRecursion IsClause (map (written_clause P) cs)
+  diff_is : (s : SidesOf ℕ) → AreSidesOver IsShort s → IsDiff (written_diff s)
+  diff_is s is =
+      let lefts = length-map s.left decimal in
+      let rights = length-map s.right decimal in
+      record {
+        left_some = omega (arith, lefts, is.some);
+        right_some = omega (arith, rights, is.some, is.paired);
+        left = numbers_are s.left is.left;
+        right = numbers_are s.right is.right;
+      }
+
+  clauses_are : (cs : List (SpelledClause ℕ)) → AllByRecursion (IsClauseOver IsShort P) cs → AllByRecursion StandsRight cs → AllByRecursion IsClause (map (written_clause P) cs)
   clauses_are [] are right = tt
-  clauses_are (c ∷ cs) are right =
-      (record { hypotheses = hypotheses_are c.hypotheses are.0.hypotheses right.0.hypotheses; conclusion = conclusion_is c.conclusion are.0.conclusion right.0.conclusion }, clauses_are cs are.1 right.1)
+  clauses_are (c ∷ cs) are right = (
+    record {
+      hypotheses = hypotheses_are c.hypotheses are.0.hypotheses right.0.hypotheses;
+      diffs = mapped_all (AreSidesOver IsShort) IsDiff written_diff diff_is c.diffs are.0.diffs;
+      conclusion = conclusion_is c.conclusion are.0.conclusion right.0.conclusion;
+    },
+    clauses_are cs are.1 right.1,
+  )
 
 row_is : (ns : List ℕ) → IsRow ns → IsNumberRow (map decimal ns)
 row_is [] is = absurd is
@@ -99,7 +124,7 @@ module _ {X Y : Type 0} (f : X → Y) where
   conclusion_mapped (fact.Mev e ts) may = may
   conclusion_mapped (fact.Bad ts) may = tt
 
-  pub clause_mapped : (c : Clause X) → StandsRight c → StandsRight (fact.map_clause f c)
+  pub clause_mapped : (c : SpelledClause X) → StandsRight c → StandsRight (map_spelled f c)
   clause_mapped c right = record {
     hypotheses = mapped_all MayBeHypothesis MayBeHypothesis (fact.map_fact f) hypothesis_mapped c.hypotheses right.hypotheses;
     conclusion = conclusion_mapped c.conclusion right.conclusion;
@@ -111,7 +136,7 @@ written_in_grammar P names c is =
     let by_numbers = with_nodes_is P c is.is (omega arith) in
     record {
       nodes = mapped_all (IsNodeOf P) IsNode (written_node P) (node_is P names) (with_nodes c).nodes by_numbers.nodes;
-      clauses = clauses_are P names (with_nodes c).clauses by_numbers.clauses (mapped_all StandsRight StandsRight (fact.map_clause (number_in (table c.clauses))) (clause_mapped (number_in (table c.clauses))) c.clauses is.stands);
+      clauses = clauses_are P names (with_nodes c).clauses by_numbers.clauses (mapped_all StandsRight StandsRight (λ d. map_spelled (number_in (table c.clauses)) (spelled_clause d)) (λ d right. clause_mapped (number_in (table c.clauses)) (spelled_clause d) record { hypotheses = right.hypotheses; conclusion = right.conclusion }) c.clauses is.stands);
       rows = mapped_all IsRow IsNumberRow (map decimal) row_is c.rows is.rows;
       goals = mapped_all IsRow IsNumberRow (map decimal) row_is c.goals is.goals;
     }

@@ -3,26 +3,27 @@ use Rattle.std.proofs.Common.{◌≡◌, ℕ, true, false, not, ◌&&◌, ◌||�
 use Rattle.std.specs.Prelude.{flat_map, filter}
 use Rattle.std.specs.Option.{option_map_or}
 use Rattle.std.specs.List.{AllByRecursion}
-use Rattle.std.proofs.lemmas.List.{append_assoc, append-nil, map-append}
+use Rattle.std.proofs.lemmas.List.{append_assoc, append-nil}
 use Rattle.std.proofs.lemmas.List.Elements.{filter-append}
 use Rattle.std.proofs.lemmas.Grind.{flat_map-append}
 use Rattle.std.proofs.lemmas.Bool.Decides.{nat_tests}
 use Rattle.spec_trees.specs.Tree.{Leaf}
 use Rattle.spec_calculus.specs.Syntax.{Protocol}
 use Rattle.spec_terms.specs.Term.{Term}
-use Rattle.spec_clauses.specs.Fact.{Fact, Clause, terms_of, map_fact, map_clause, same_term}
+use Rattle.spec_clauses.specs.Fact.{Clause, same_term}
+use Rattle.spec_certificate_text.specs.Sides.{spelled_clause, map_spelled}
 use Rattle.spec_clauses.specs.Norm.{distinct}
 use Rattle.spec_clauses.specs.Inclusion.{Has}
 use Rattle.spec_clauses.proofs.Equality.{same_term-decides}
-use Rattle.spec_clauses.proofs.Parts.{terms_of-map}
 use Rattle.spec_clauses.proofs.Lists.{all_weaker}
-use Rattle.spec_node_tables.specs.Table.{walk, facts_in_order, terms_in_order, table, number_in}
+use Rattle.spec_node_tables.specs.Table.{walk, spelled_terms, terms_in_order, table, number_in}
 use Rattle.spec_node_tables.specs.Nodes.{term_at}
 use Rattle.spec_node_tables.proofs.Numbers.{at_place, place_within}
 use Rattle.spec_node_tables.proofs.Back.{mapped_back}
 use Rattle.spec_node_faults.specs.Nodes.{place_if}
-use Rattle.spec_node_faults.specs.Clauses.{Item, Begins, Signs, Event, Entry, Phase, Number, is_front, completed, is_out_of_order, item_orders, item_terms, has_unreached}
-use Rattle.spec_node_faults.proofs.Items.{IsGood, item_values, in_order}
+use Rattle.spec_node_faults.specs.Clauses.{Item, Begins, Signs, Event, Entry, Phase, Paired, Number, Side, is_front, completed, is_out_of_order, item_orders, item_terms, has_unreached}
+use Rattle.spec_node_faults.proofs.Items.{IsGood, item_values}
+use Rattle.spec_node_faults.proofs.Spelled.{values_mapped}
 
 -- Fronts.
 
@@ -51,7 +52,7 @@ InOrder all ts [] = Unit {0}
 InOrder all ts (n ∷ ns) = (is_out_of_order all ts n ≡ false) × InOrder all (ts ++ (term_at all n ∷ [])) ns
 
 module _ (P : Protocol) where
-  pub orders_clear : (all ts : List Term) (items : List Item) → AllByRecursion (IsGood P) items → InOrder all ts (flat_map item_values items) → item_orders all ts items ≡ []
+  pub orders_clear : (all ts : List Term) (items : List Item) → AllByRecursion (IsGood P all) items → InOrder all ts (flat_map item_values items) → item_orders all ts items ≡ []
   unfolding IsGood
   orders_clear all ts [] good order = refl
   orders_clear all ts (Begins place ∷ items) good order = orders_clear all ts items good.1 order
@@ -59,14 +60,23 @@ module _ (P : Protocol) where
   orders_clear all ts (Event place word arguments ∷ items) good order = orders_clear all ts items good.1 order
   orders_clear all ts (Entry place word arguments ∷ items) good order = orders_clear all ts items good.1 order
   orders_clear all ts (Phase p ∷ items) good order = orders_clear all ts items good.1 order
+  orders_clear all ts (Paired place left right ∷ items) good order = orders_clear all ts items good.1 order
   orders_clear all ts (Number p ∷ items) good order =
-      let (n, e) = good.0 in
+      let n = good.0.0 in
+      let e = good.0.1 in
+      let steps : InOrder all ts (n ∷ flat_map item_values items) = subst (λ o. InOrder all ts (option_map_or (λ m. m ∷ []) o [] ++ flat_map item_values items)) e order in
+      ap (λ o. option_map_or (λ m. place_if (is_out_of_order all ts m) p.place ++ item_orders all (ts ++ (term_at all m ∷ [])) items) o (item_orders all ts items)) e
+      ∙ (ap (λ b. place_if b p.place ++ item_orders all (ts ++ (term_at all n ∷ [])) items) steps.0
+      ∙ orders_clear all (ts ++ (term_at all n ∷ [])) items good.1 steps.1)
+  orders_clear all ts (Side p ∷ items) good order =
+      let n = good.0.0 in
+      let e = good.0.1 in
       let steps : InOrder all ts (n ∷ flat_map item_values items) = subst (λ o. InOrder all ts (option_map_or (λ m. m ∷ []) o [] ++ flat_map item_values items)) e order in
       ap (λ o. option_map_or (λ m. place_if (is_out_of_order all ts m) p.place ++ item_orders all (ts ++ (term_at all m ∷ [])) items) o (item_orders all ts items)) e
       ∙ (ap (λ b. place_if b p.place ++ item_orders all (ts ++ (term_at all n ∷ [])) items) steps.0
       ∙ orders_clear all (ts ++ (term_at all n ∷ [])) items good.1 steps.1)
 
-  pub terms_values : (all : List Term) (items : List Item) → AllByRecursion (IsGood P) items → flat_map (item_terms all) items ≡ map (term_at all) (flat_map item_values items)
+  pub terms_values : (all : List Term) (items : List Item) → AllByRecursion (IsGood P all) items → flat_map (item_terms all) items ≡ map (term_at all) (flat_map item_values items)
   unfolding IsGood
   terms_values all [] good = refl
   terms_values all (Begins place ∷ items) good = terms_values all items good.1
@@ -74,8 +84,16 @@ module _ (P : Protocol) where
   terms_values all (Event place word arguments ∷ items) good = terms_values all items good.1
   terms_values all (Entry place word arguments ∷ items) good = terms_values all items good.1
   terms_values all (Phase p ∷ items) good = terms_values all items good.1
+  terms_values all (Paired place left right ∷ items) good = terms_values all items good.1
   terms_values all (Number p ∷ items) good =
-      let (n, e) = good.0 in
+      let n = good.0.0 in
+      let e = good.0.1 in
+      ap (λ o. option_map_or (λ m. term_at all m ∷ []) o [] ++ flat_map (item_terms all) items) e
+      ∙ (ap (λ zs. term_at all n ∷ zs) (terms_values all items good.1)
+      ∙ sym (ap (λ o. map (term_at all) (option_map_or (λ m. m ∷ []) o [] ++ flat_map item_values items)) e))
+  terms_values all (Side p ∷ items) good =
+      let n = good.0.0 in
+      let e = good.0.1 in
       ap (λ o. option_map_or (λ m. term_at all m ∷ []) o [] ++ flat_map (item_terms all) items) e
       ∙ (ap (λ zs. term_at all n ∷ zs) (terms_values all items good.1)
       ∙ sym (ap (λ o. map (term_at all) (option_map_or (λ m. m ∷ []) o [] ++ flat_map item_values items)) e))
@@ -106,24 +124,7 @@ module _ (cs : List (Clause Term)) where
         subst (λ v. InOrder (table cs) (ts ++ (v ∷ [])) (map (number_in (table cs)) us)) (sym (term_there u stand.0)) later,
       )
 
--- the numbers of clauses by numbers are those of their terms
-facts_mapped : (f : Term → ℕ) (fs : List (Fact Term)) → flat_map terms_of (map (map_fact f) fs) ≡ map f (flat_map terms_of fs)
-facts_mapped f [] = refl
-facts_mapped f (h ∷ hs) =
-    ap (λ zs. zs ++ flat_map terms_of (map (map_fact f) hs)) (terms_of-map f h)
-    ∙ (ap (λ zs. map f (terms_of h) ++ zs) (facts_mapped f hs) ∙ sym (map-append f (terms_of h) (flat_map terms_of hs)))
-
-ordered_mapped : (f : Term → ℕ) (cs : List (Clause Term)) → flat_map in_order (map (map_clause f) cs) ≡ map (map_fact f) (flat_map facts_in_order cs)
-ordered_mapped f [] = refl
-ordered_mapped f (c ∷ cs) =
-    ap (λ zs. in_order (map_clause f c) ++ zs) (ordered_mapped f cs)
-    ∙ (ap (λ zs. zs ++ map (map_fact f) (flat_map facts_in_order cs)) (sym (map-append (map_fact f) c.hypotheses (c.conclusion ∷ [])))
-    ∙ sym (map-append (map_fact f) (facts_in_order c) (flat_map facts_in_order cs)))
-
-pub values_mapped : (f : Term → ℕ) (cs : List (Clause Term)) → flat_map terms_of (flat_map in_order (map (map_clause f) cs)) ≡ map f (terms_in_order cs)
-values_mapped f cs = ap (flat_map terms_of) (ordered_mapped f cs) ∙ facts_mapped f (flat_map facts_in_order cs)
-
-module _ (P : Protocol) (cs : List (Clause Term)) (stand : AllByRecursion (Has (table cs)) (terms_in_order cs)) (items : List Item) (good : AllByRecursion (IsGood P) items) (values : flat_map item_values items ≡ flat_map terms_of (flat_map in_order (map (map_clause (number_in (table cs))) cs))) where
+module _ (P : Protocol) (cs : List (Clause Term)) (stand : AllByRecursion (Has (table cs)) (terms_in_order cs)) (items : List Item) (good : AllByRecursion (IsGood P (table cs)) items) (values : flat_map item_values items ≡ flat_map spelled_terms (map (λ c. map_spelled (number_in (table cs)) (spelled_clause c)) cs)) where
   of_terms : flat_map item_values items ≡ map (number_in (table cs)) (terms_in_order cs)
   of_terms = values ∙ values_mapped (number_in (table cs)) cs
 

@@ -3,14 +3,15 @@ use Rattle.std.proofs.Common.{◌≡◌, ℕ, List, [], ◌∷◌, ◌++◌, map
 use Rattle.std.specs.Prelude.{codes}
 use Rattle.std.specs.Fmt.{decimal}
 use Rattle.spec_calculus.specs.Syntax.{Declared, Protocol}
-use Rattle.spec_clauses.specs.Fact.{Fact, Att, Mess, Tab, Ev, Mev, Bad, Clause}
+use Rattle.spec_clauses.specs.Fact.{Fact, Att, Mess, Tab, Ev, Mev, Bad}
+use Rattle.spec_certificate_text.specs.Sides.{SidesOf, SpelledClause}
 use Rattle.spec_certificate_text.specs.Words.{declared_word, event_word}
 use Rattle.spec_certificate_text.specs.Text.{phase_text}
 use Rattle.spec_certificate_text.specs.Text.{numbers_text, row_lines}
 use Rattle.spec_node_tables.specs.Nodes.{TableNode, NodeCertificate}
 use Rattle.spec_node_tables.specs.Text as short
-use Rattle.spec_node_tables.specs.Text.{number_text, node_head, head_text, node_numbers, terms_text, call_over, event_over, fact_over, hypotheses_over, clause_over, clause_lines_over, numbered_text}
-use Rattle.spec_node_faults.specs.Loose.{spaced, later_numbers, commas, node_line, phase_onto, phase_digits, event_onto, fact_onto, later_onto, hypotheses_onto, clause_line, row_line, lines, certificate_onto, written_node, written_fact, written_clause, written}
+use Rattle.spec_node_tables.specs.Text.{number_text, node_head, head_text, node_numbers, terms_text, call_over, event_over, fact_over, sides_over, diffs_over, hypotheses_over, clause_over, clause_lines_over, numbered_text}
+use Rattle.spec_node_faults.specs.Loose.{spaced, later_numbers, commas, node_line, phase_onto, phase_digits, event_onto, fact_onto, diff_onto, later_diffs, diffs_onto, later_onto, hypotheses_onto, clause_line, row_line, lines, certificate_onto, written_node, written_fact, written_diff, written_clause, written}
 
 numbers_spaced : (ns : List ℕ) (k : List ℕ) → spaced (map decimal ns) k ≡ numbers_text ns k
 numbers_spaced [] k = refl
@@ -44,20 +45,32 @@ module _ (P : Protocol) where
   fact_same (Mev e ns) k = ap (λ r. codes "mev(" ++ r) (event_same e ns (41 ∷ k))
   fact_same (Bad ns) k = ap (λ r. codes "bad(" ++ r) (commas_same ns (41 ∷ k))
 
-  later_facts_same : (hs : List (Fact ℕ)) (k : List ℕ) → later_onto (map (written_fact P) hs) k ≡ short.later_hypotheses number_text P hs k
-  later_facts_same [] k = refl
-  later_facts_same (h ∷ hs) k = ap (λ r. 44 ∷ 32 ∷ fact_onto (written_fact P h) r) (later_facts_same hs k) ∙ ap (λ r. 44 ∷ 32 ∷ r) (fact_same h (short.later_hypotheses number_text P hs k))
+  diff_same : (s : SidesOf ℕ) (k : List ℕ) → diff_onto (written_diff s) k ≡ sides_over number_text P s k
+  diff_same s k =
+      ap (λ r. codes "diff(" ++ commas (map decimal s.left) (59 ∷ r)) (commas_same s.right (41 ∷ k)) ∙ ap (λ r. codes "diff(" ++ r) (commas_same s.left (59 ∷ terms_text number_text P s.right (41 ∷ k)))
 
-  hypotheses_same : (hs : List (Fact ℕ)) (k : List ℕ) → hypotheses_onto (map (written_fact P) hs) k ≡ hypotheses_over number_text P hs k
-  hypotheses_same [] k = refl
-  hypotheses_same (h ∷ hs) k = ap (λ r. fact_onto (written_fact P h) r) (later_facts_same hs k) ∙ fact_same h (short.later_hypotheses number_text P hs k)
+  later_diffs_same : (ds : List (SidesOf ℕ)) (k : List ℕ) → later_diffs (map written_diff ds) k ≡ short.later_diffs number_text P ds k
+  later_diffs_same [] k = refl
+  later_diffs_same (d ∷ ds) k = ap (λ r. 44 ∷ 32 ∷ diff_onto (written_diff d) r) (later_diffs_same ds k) ∙ ap (λ r. 44 ∷ 32 ∷ r) (diff_same d (short.later_diffs number_text P ds k))
 
-  clause_same : (c : Clause ℕ) (k : List ℕ) → clause_line (written_clause P c) k ≡ 99 ∷ 32 ∷ clause_over number_text P c (10 ∷ k)
+  diffs_same : (ds : List (SidesOf ℕ)) (k : List ℕ) → diffs_onto (map written_diff ds) k ≡ diffs_over number_text P ds k
+  diffs_same [] k = refl
+  diffs_same (d ∷ ds) k = ap (λ r. diff_onto (written_diff d) r) (later_diffs_same ds k) ∙ diff_same d (short.later_diffs number_text P ds k)
+
+  later_facts_same : (hs : List (Fact ℕ)) (ds : List (SidesOf ℕ)) (k : List ℕ) → later_onto (map (written_fact P) hs) (map written_diff ds) k ≡ short.later_hypotheses number_text P hs ds k
+  later_facts_same [] ds k = later_diffs_same ds k
+  later_facts_same (h ∷ hs) ds k = ap (λ r. 44 ∷ 32 ∷ fact_onto (written_fact P h) r) (later_facts_same hs ds k) ∙ ap (λ r. 44 ∷ 32 ∷ r) (fact_same h (short.later_hypotheses number_text P hs ds k))
+
+  hypotheses_same : (hs : List (Fact ℕ)) (ds : List (SidesOf ℕ)) (k : List ℕ) → hypotheses_onto (map (written_fact P) hs) (map written_diff ds) k ≡ hypotheses_over number_text P hs ds k
+  hypotheses_same [] ds k = diffs_same ds k
+  hypotheses_same (h ∷ hs) ds k = ap (λ r. fact_onto (written_fact P h) r) (later_facts_same hs ds k) ∙ fact_same h (short.later_hypotheses number_text P hs ds k)
+
+  clause_same : (c : SpelledClause ℕ) (k : List ℕ) → clause_line (written_clause P c) k ≡ 99 ∷ 32 ∷ clause_over number_text P c (10 ∷ k)
   clause_same c k =
-      ap (λ r. 99 ∷ 32 ∷ hypotheses_onto (map (written_fact P) c.hypotheses) (61 ∷ 62 ∷ 32 ∷ r)) (fact_same c.conclusion (10 ∷ k))
-      ∙ ap (λ r. 99 ∷ 32 ∷ r) (hypotheses_same c.hypotheses (61 ∷ 62 ∷ 32 ∷ fact_over number_text P c.conclusion (10 ∷ k)))
+      ap (λ r. 99 ∷ 32 ∷ hypotheses_onto (map (written_fact P) c.hypotheses) (map written_diff c.diffs) (61 ∷ 62 ∷ 32 ∷ r)) (fact_same c.conclusion (10 ∷ k))
+      ∙ ap (λ r. 99 ∷ 32 ∷ r) (hypotheses_same c.hypotheses c.diffs (61 ∷ 62 ∷ 32 ∷ fact_over number_text P c.conclusion (10 ∷ k)))
 
-  clauses_same : (cs : List (Clause ℕ)) (k : List ℕ) → lines clause_line (map (written_clause P) cs) k ≡ clause_lines_over number_text P cs k
+  clauses_same : (cs : List (SpelledClause ℕ)) (k : List ℕ) → lines clause_line (map (written_clause P) cs) k ≡ clause_lines_over number_text P cs k
   clauses_same [] k = refl
   clauses_same (c ∷ cs) k = ap (λ r. clause_line (written_clause P c) r) (clauses_same cs k) ∙ clause_same c (clause_lines_over number_text P cs k)
 

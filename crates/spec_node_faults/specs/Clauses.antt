@@ -9,12 +9,13 @@ use Rattle.spec_run_text.specs.Reading.{numeral}
 use Rattle.spec_terms.specs.Term.{Term}
 use Rattle.spec_clauses.specs.Fact.{same_term}
 use Rattle.spec_clauses.specs.Norm.{distinct}
+use Rattle.spec_certificate_text.specs.Sides.{holds_bound}
 use Rattle.spec_certificate_text.specs.Names.{event_called, table_called}
 use Rattle.spec_certificate_text.specs.Facts.{is_later_phase}
 use Rattle.spec_node_tables.specs.Table.{walk}
 use Rattle.spec_node_tables.specs.Nodes.{term_at}
 use Rattle.spec_node_tables.specs.Large.{is_over, most_certificate_symbols}
-use Rattle.spec_node_faults.specs.Loose.{Predicate, Att, Mess, Tab, Ev, Mev, Bad, LooseFact, LooseClause, fact_onto, clause_line}
+use Rattle.spec_node_faults.specs.Loose.{Predicate, Att, Mess, Tab, Ev, Mev, Bad, LooseFact, LooseDiff, LooseClause, commas, fact_onto, diff_onto, clause_line}
 use Rattle.spec_node_faults.specs.Nodes.{Placed, placed, place_if, no_number}
 
 -- What stands in clauses, in order, each with its place.
@@ -29,8 +30,11 @@ pub data Item : Type 0 where
   Entry : (place : ℕ) → (word : List ℕ) → (arguments : ℕ) → Item
   -- the digits of a phase
   Phase : (at : Placed) → Item
-  -- a number
+  -- a constraint over so many left sides and right sides
+  Paired : (place left right : ℕ) → Item
+  -- a number of a fact, and one of a side
   Number : (at : Placed) → Item
+  Side : (at : Placed) → Item
 
 abbrev pub number_items : ℕ → List (List ℕ) → List Item
 number_items at ds = map Number (placed at ds)
@@ -61,32 +65,52 @@ predicate_items at Bad ds = Signs 1 ∷ number_items (at + 4) ds
 abbrev pub fact_items : ℕ → LooseFact → List Item
 fact_items at f = predicate_items at f.predicate f.numbers
 
--- behind a hypothesis: a further one behind a comma and a space, or the conclusion behind ` => `
-abbrev pub later_items : ℕ → List LooseFact → LooseFact → List Item
-later_items at [] conclusion = fact_items (at + 4) conclusion
-later_items at (h ∷ hs) conclusion = fact_items (at + 2) h ++ later_items (at + 2 + length (fact_onto h [])) hs conclusion
+-- `diff(` stands before the left sides, and `;` before the right ones
+abbrev pub diff_items : ℕ → LooseDiff → List Item
+diff_items at d =
+    Signs 1 ∷ Paired at (length d.left) (length d.right) ∷ map Side (placed (at + 5) d.left) ++ map Side (placed (at + 6 + length (commas d.left [])) d.right)
 
-abbrev pub facts_items : ℕ → List LooseFact → LooseFact → List Item
-facts_items at [] conclusion = fact_items (at + 3) conclusion
-facts_items at (h ∷ hs) conclusion = fact_items at h ++ later_items (at + length (fact_onto h [])) hs conclusion
+-- behind a hypothesis or a constraint: a further constraint behind a comma and a space, or the conclusion behind ` => `
+abbrev pub later_diff_items : ℕ → List LooseDiff → LooseFact → List Item
+later_diff_items at [] conclusion = fact_items (at + 4) conclusion
+later_diff_items at (d ∷ ds) conclusion = diff_items (at + 2) d ++ later_diff_items (at + 2 + length (diff_onto d [])) ds conclusion
+
+-- with no hypotheses before them
+abbrev pub diffs_items : ℕ → List LooseDiff → LooseFact → List Item
+diffs_items at [] conclusion = fact_items (at + 3) conclusion
+diffs_items at (d ∷ ds) conclusion = diff_items at d ++ later_diff_items (at + length (diff_onto d [])) ds conclusion
+
+-- behind a hypothesis: a further one behind a comma and a space, or what follows the hypotheses
+abbrev pub later_items : ℕ → List LooseFact → List LooseDiff → LooseFact → List Item
+later_items at [] ds conclusion = later_diff_items at ds conclusion
+later_items at (h ∷ hs) ds conclusion = fact_items (at + 2) h ++ later_items (at + 2 + length (fact_onto h [])) hs ds conclusion
+
+abbrev pub premise_items : ℕ → List LooseFact → List LooseDiff → LooseFact → List Item
+premise_items at [] ds conclusion = diffs_items at ds conclusion
+premise_items at (h ∷ hs) ds conclusion = fact_items at h ++ later_items (at + length (fact_onto h [])) hs ds conclusion
 
 -- clauses from a place on, each on a line behind `c `
 abbrev pub clause_items : ℕ → List LooseClause → List Item
 clause_items at [] = []
-clause_items at (c ∷ cs) = Begins at ∷ (facts_items (at + 2) c.hypotheses c.conclusion ++ clause_items (at + length (clause_line c [])) cs)
+clause_items at (c ∷ cs) = Begins at ∷ (premise_items (at + 2) c.hypotheses c.diffs c.conclusion ++ clause_items (at + length (clause_line c [])) cs)
 
 -- Number
 abbrev pub item_numbers : Item → List ℕ
 item_numbers (Number p) = no_number p
 item_numbers (Phase p) = no_number p
+item_numbers (Side p) = no_number p
 item_numbers _ = []
 
--- Symbol: no event or table has the word, or the number is no phase past the first
-abbrev pub item_symbols : Protocol → Item → List ℕ
-item_symbols P (Event place word arguments) = place_if (is_none (event_called P word)) place
-item_symbols P (Entry place word arguments) = place_if (is_none (table_called P word)) place
-item_symbols P (Phase p) = place_if (option_map_or (λ k. not (is_later_phase P k)) (numeral p.digits) false) p.place
-item_symbols P _ = []
+-- Symbol: no event or table has the word, the number is no phase past the first, or a bound variable stands in the term of a fact's number
+abbrev pub is_bound_number : List Term → List ℕ → Bool
+is_bound_number table digits = option_map_or (λ n. holds_bound (term_at table n)) (numeral digits) false
+
+abbrev pub item_symbols : Protocol → List Term → Item → List ℕ
+item_symbols P table (Event place word arguments) = place_if (is_none (event_called P word)) place
+item_symbols P table (Entry place word arguments) = place_if (is_none (table_called P word)) place
+item_symbols P table (Phase p) = place_if (option_map_or (λ k. not (is_later_phase P k)) (numeral p.digits) false) p.place
+item_symbols P table (Number p) = place_if (is_bound_number table p.digits) p.place
+item_symbols P table _ = []
 
 -- Count: a clause begins that is one too many
 abbrev pub item_begins : Item → List ℕ
@@ -117,13 +141,18 @@ item_orders table ts (Signs symbols ∷ items) = item_orders table ts items
 item_orders table ts (Event place word arguments ∷ items) = item_orders table ts items
 item_orders table ts (Entry place word arguments ∷ items) = item_orders table ts items
 item_orders table ts (Phase p ∷ items) = item_orders table ts items
+item_orders table ts (Paired place left right ∷ items) = item_orders table ts items
 item_orders table ts (Number p ∷ items) =
+    option_map_or (λ n. place_if (is_out_of_order table ts n) p.place ++ item_orders table (ts ++ (term_at table n ∷ [])) items)
+    (numeral p.digits) (item_orders table ts items)
+item_orders table ts (Side p ∷ items) =
     option_map_or (λ n. place_if (is_out_of_order table ts n) p.place ++ item_orders table (ts ++ (term_at table n ∷ [])) items)
     (numeral p.digits) (item_orders table ts items)
 
 -- the terms of the numbers in clauses
 abbrev pub item_terms : List Term → Item → List Term
 item_terms table (Number p) = option_map_or (λ n. term_at table n ∷ []) (numeral p.digits) []
+item_terms table (Side p) = option_map_or (λ n. term_at table n ∷ []) (numeral p.digits) []
 item_terms table _ = []
 
 -- some node was never reached
@@ -138,17 +167,26 @@ item_larges table clause all (Signs symbols ∷ items) = item_larges table (clau
 item_larges table clause all (Event place word arguments ∷ items) = item_larges table clause all items
 item_larges table clause all (Entry place word arguments ∷ items) = item_larges table clause all items
 item_larges table clause all (Phase p ∷ items) = item_larges table clause all items
+item_larges table clause all (Paired place left right ∷ items) = item_larges table clause all items
 item_larges table clause all (Number p ∷ items) =
     option_map_or (λ n.
     let symbols = size (term_at table n) in
     place_if (is_over most_symbols (clause + symbols) || is_over most_certificate_symbols (all + symbols)) p.place
     ++ item_larges table (clause + symbols) (all + symbols) items)
     (numeral p.digits) (item_larges table clause all items)
+item_larges table clause all (Side p ∷ items) =
+    option_map_or (λ n.
+    let symbols = size (term_at table n) in
+    place_if (is_over most_symbols (clause + symbols) || is_over most_certificate_symbols (all + symbols)) p.place
+    ++ item_larges table (clause + symbols) (all + symbols) items)
+    (numeral p.digits) (item_larges table clause all items)
 
--- Arity, at an event or a table: it takes another number of arguments, and at none of these does another fault stand.
+-- Arity, at an event, a table or a constraint: it takes another number of arguments, or its sides aren't as many, and at none of these does
+-- another fault stand.
 
 abbrev pub stands_at : List ℕ → Item → Bool
 stands_at places (Number p) = list_any (λ place. place == p.place) places
+stands_at places (Side p) = list_any (λ place. place == p.place) places
 stands_at places _ = false
 
 abbrev pub item_arities : Protocol → List ℕ → List Item → List ℕ
@@ -162,4 +200,7 @@ item_arities P others (Entry place word arguments ∷ items) =
 item_arities P others (Phase p ∷ items) = item_arities P others items
 item_arities P others (Begins place ∷ items) = item_arities P others items
 item_arities P others (Signs symbols ∷ items) = item_arities P others items
+item_arities P others (Paired place left right ∷ items) =
+    place_if (not (left == right) && not (list_any (stands_at others) (take (left + right) items))) place ++ item_arities P others items
 item_arities P others (Number p ∷ items) = item_arities P others items
+item_arities P others (Side p ∷ items) = item_arities P others items

@@ -16,10 +16,10 @@ abbrev pub of : Predicate → List (List ℕ) → LooseFact
 of predicate numbers = record { predicate = predicate; numbers = numbers }
 
 abbrev pub concludes : LooseFact → LooseClause
-concludes f = record { hypotheses = []; conclusion = f }
+concludes f = record { hypotheses = []; diffs = []; conclusion = f }
 
 abbrev pub from : List LooseFact → LooseFact → LooseClause
-from hs f = record { hypotheses = hs; conclusion = f }
+from hs f = record { hypotheses = hs; diffs = []; conclusion = f }
 
 abbrev pub certificate : List LooseNode → List LooseClause → LooseCertificate
 certificate nodes clauses = record { nodes = nodes; clauses = clauses; rows = []; goals = [] }
@@ -34,6 +34,10 @@ enc d e = over (Applied (codes "enc")) (d ∷ e ∷ [])
 -- the event of that word over these numbers must have run, and `bad()`
 abbrev pub happened : List ℕ → List (List ℕ) → LooseClause
 happened word numbers = from (of (Mev word) numbers ∷ []) (of Bad [])
+
+-- `diff(..;..) => bad()` over these numbers
+abbrev pub apart : List (List ℕ) → List (List ℕ) → LooseClause
+apart left right = record { hypotheses = []; diffs = record { left = left; right = right } ∷ []; conclusion = of Bad [] }
 
 -- n c, n v0, n @ 2, n v1, n s
 abbrev pub silent_nodes : List LooseNode

@@ -47,14 +47,17 @@ clause_orders P at c = item_orders (table_of P c) [] (all_items at c)
 abbrev pub clause_larges : Protocol → ℕ → LooseCertificate → List ℕ
 clause_larges P at c = item_larges (table_of P c) 0 0 (all_items at c)
 
+abbrev pub clause_symbols : Protocol → ℕ → LooseCertificate → List ℕ
+clause_symbols P at c = flat_map (item_symbols P (table_of P c)) (all_items at c)
+
 abbrev pub places : Protocol → ℕ → LooseCertificate → Code → List ℕ
 places P at c Syntax = []
 places P at c Number =
     flat_map (node_numbers P) (all_nodes P at c) ++ clause_numbers at c ++ row_numbers (rows_place at c) 114 c.rows ++ row_numbers (goals_place at c) 103 c.goals
-places P at c Symbol = flat_map (node_symbols P) (all_nodes P at c) ++ flat_map (item_symbols P) (all_items at c)
+places P at c Symbol = flat_map (node_symbols P) (all_nodes P at c) ++ clause_symbols P at c
 places P at c Arity =
     flat_map (node_arities P) (all_nodes P at c)
-    ++ item_arities P (clause_numbers at c ++ clause_orders P at c ++ clause_larges P at c) (all_items at c)
+    ++ item_arities P (clause_numbers at c ++ clause_symbols P at c ++ clause_orders P at c ++ clause_larges P at c) (all_items at c)
 places P at c Count = clause_counts (all_items at c)
 places P at c NodeOrder =
     flat_map (node_orders P) (all_nodes P at c) ++ clause_orders P at c ++ place_if (has_unreached (table_of P c) (all_items at c)) (rows_place at c)

@@ -1,25 +1,25 @@
 -- The certificates of the grammar, whatever their words name, and which may be written by a table.
-use Rattle.std.specs.Prelude.{◌≡◌, ℕ, ◌≤◌, IfSome, List, length}
+use Rattle.std.specs.Prelude.{◌≡◌, ℕ, ◌≤◌, ◌⊎◌, IfSome, List, length}
 use Rattle.std.specs.List.{AllByRecursion}
 use Rattle.spec_calculus.specs.Bounds.{most_clauses}
 use Rattle.spec_calculus.specs.Syntax.{Protocol}
-use Rattle.spec_clauses.specs.Fact.{Clause}
+use Rattle.spec_clauses.specs.Fact.{ClauseOf}
 use Rattle.spec_clauses.specs.Fact as fact
 use Rattle.spec_certificates.specs.Certificate.{Certificate}
 use Rattle.spec_certificate_text.specs.Loose.{Head, Applied, Tupled, Made, Attackers}
-use Rattle.spec_certificate_text.specs.Spelled.{IsWord, AreDigits}
+use Rattle.spec_certificate_text.specs.Spelled.{IsWord, IsBoundWord, AreDigits}
 use Rattle.spec_certificate_text.specs.OfProtocol.{IsCertificateOf}
 use Rattle.spec_certificate_text.specs.Readable.{IsRow}
 use Rattle.spec_node_tables.specs.Large.{FitsInNodes}
-use Rattle.spec_node_faults.specs.Loose.{LooseNode, Predicate, Att, Mess, Tab, Ev, Mev, Bad, LooseFact, LooseClause, LooseCertificate}
+use Rattle.spec_node_faults.specs.Loose.{LooseNode, Predicate, Att, Mess, Tab, Ev, Mev, Bad, LooseFact, LooseDiff, LooseClause, LooseCertificate}
 
 -- digits, one at least
 abbrev pub IsNumber : List ℕ → Type 0
 IsNumber digits = AreDigits digits × (1 ≤ length digits)
 
--- a head before so many numbers: before those of `@` there is just one
+-- a head before so many numbers: behind a bound variable there are none, and behind `@` just one
 abbrev pub IsHeadOf : Head → ℕ → Type 0
-IsHeadOf (Applied word) n = IsWord word
+IsHeadOf (Applied word) n = IsWord word ⊎ (IsBoundWord word × (n ≡ 0))
 IsHeadOf Tupled n = Unit {0}
 IsHeadOf (Made word digits) n = IsWord word × IsNumber digits
 IsHeadOf Attackers n = n ≡ 1
@@ -57,8 +57,16 @@ pub record IsConclusion (f : LooseFact) : Type 0 where
   pub numbers : AllByRecursion IsNumber f.numbers
   pub concluded : MayBeConcluded f.predicate
 
+-- numbers, one at least, on each side
+pub record IsDiff (d : LooseDiff) : Type 0 where
+  pub left_some : 1 ≤ length d.left
+  pub right_some : 1 ≤ length d.right
+  pub left : AllByRecursion IsNumber d.left
+  pub right : AllByRecursion IsNumber d.right
+
 pub record IsClause (c : LooseClause) : Type 0 where
   pub hypotheses : AllByRecursion IsHypothesis c.hypotheses
+  pub diffs : AllByRecursion IsDiff c.diffs
   pub conclusion : IsConclusion c.conclusion
 
 -- a row has one number at least
@@ -82,7 +90,7 @@ abbrev pub MayBeConclusion : {X : Type 0} → fact.Fact X → Type 0
 MayBeConclusion (fact.Mev e ts) = ⊥
 MayBeConclusion _ = Unit {0}
 
-pub record StandsRight {X : Type 0} (c : Clause X) : Type 0 where
+pub record StandsRight {X D : Type 0} (c : ClauseOf X D) : Type 0 where
   pub hypotheses : AllByRecursion MayBeHypothesis c.hypotheses
   pub conclusion : MayBeConclusion c.conclusion
 

@@ -2,9 +2,10 @@
 use Rattle.std.specs.Prelude.{ℕ, zero, suc, Option, None, Some, List, [], ◌∷◌, ◌++◌, map, codes}
 use Rattle.std.specs.Fmt.{decimal}
 use Rattle.spec_calculus.specs.Syntax.{Protocol}
-use Rattle.spec_clauses.specs.Fact.{Fact, Clause, terms_of}
+use Rattle.spec_clauses.specs.Fact.{Fact, terms_of}
 use Rattle.spec_clauses.specs.Fact as fact
 use Rattle.spec_certificate_text.specs.Loose.{Head}
+use Rattle.spec_certificate_text.specs.Sides.{SidesOf, SpelledClause}
 use Rattle.spec_certificate_text.specs.Words.{event_word, table_word}
 use Rattle.spec_node_tables.specs.Nodes.{TableNode, NodeCertificate}
 use Rattle.spec_node_tables.specs.Text.{node_head, head_text, node_numbers}
@@ -27,8 +28,14 @@ pub record LooseFact : Type 0 where
   pub predicate : Predicate
   pub numbers : List (List ℕ)
 
+-- a constraint: the digits of its left sides and of its right sides
+pub record LooseDiff : Type 0 where
+  pub left : List (List ℕ)
+  pub right : List (List ℕ)
+
 pub record LooseClause : Type 0 where
   pub hypotheses : List LooseFact
+  pub diffs : List LooseDiff
   pub conclusion : LooseFact
 
 pub record LooseCertificate : Type 0 where
@@ -81,17 +88,29 @@ predicate_onto Bad ds rest = codes "bad(" ++ commas ds (41 ∷ rest)
 abbrev pub fact_onto : LooseFact → List ℕ → List ℕ
 fact_onto f rest = predicate_onto f.predicate f.numbers rest
 
--- hypotheses behind the first, and what stands before the conclusion
-abbrev pub later_onto : List LooseFact → List ℕ → List ℕ
-later_onto [] rest = 32 ∷ rest
-later_onto (h ∷ hs) rest = 44 ∷ 32 ∷ fact_onto h (later_onto hs rest)
+abbrev pub diff_onto : LooseDiff → List ℕ → List ℕ
+diff_onto d rest = codes "diff(" ++ commas d.left (59 ∷ commas d.right (41 ∷ rest))
 
-abbrev pub hypotheses_onto : List LooseFact → List ℕ → List ℕ
-hypotheses_onto [] rest = rest
-hypotheses_onto (h ∷ hs) rest = fact_onto h (later_onto hs rest)
+-- constraints behind a hypothesis or a constraint, and what stands before the conclusion
+abbrev pub later_diffs : List LooseDiff → List ℕ → List ℕ
+later_diffs [] rest = 32 ∷ rest
+later_diffs (d ∷ ds) rest = 44 ∷ 32 ∷ diff_onto d (later_diffs ds rest)
+
+abbrev pub diffs_onto : List LooseDiff → List ℕ → List ℕ
+diffs_onto [] rest = rest
+diffs_onto (d ∷ ds) rest = diff_onto d (later_diffs ds rest)
+
+-- hypotheses behind the first, and then the constraints
+abbrev pub later_onto : List LooseFact → List LooseDiff → List ℕ → List ℕ
+later_onto [] ds rest = later_diffs ds rest
+later_onto (h ∷ hs) ds rest = 44 ∷ 32 ∷ fact_onto h (later_onto hs ds rest)
+
+abbrev pub hypotheses_onto : List LooseFact → List LooseDiff → List ℕ → List ℕ
+hypotheses_onto [] ds rest = diffs_onto ds rest
+hypotheses_onto (h ∷ hs) ds rest = fact_onto h (later_onto hs ds rest)
 
 abbrev pub clause_line : LooseClause → List ℕ → List ℕ
-clause_line c rest = 99 ∷ 32 ∷ hypotheses_onto c.hypotheses (61 ∷ 62 ∷ 32 ∷ fact_onto c.conclusion (10 ∷ rest))
+clause_line c rest = 99 ∷ 32 ∷ hypotheses_onto c.hypotheses c.diffs (61 ∷ 62 ∷ 32 ∷ fact_onto c.conclusion (10 ∷ rest))
 
 abbrev pub row_line : ℕ → List (List ℕ) → List ℕ → List ℕ
 row_line letter ds rest = letter ∷ spaced ds (10 ∷ rest)
@@ -105,7 +124,7 @@ abbrev pub certificate_onto : LooseCertificate → List ℕ → List ℕ
 certificate_onto c rest =
     codes "cert 2\n" ++ lines node_line c.nodes (lines clause_line c.clauses (lines (row_line 114) c.rows (lines (row_line 103) c.goals (codes "end\n" ++ rest))))
 
--- A certificate by numbers, written so with the words of a protocol: constraints aren't spelled yet.
+-- A certificate by numbers, written so with the words of a protocol.
 
 abbrev pub written_node : Protocol → TableNode → LooseNode
 written_node P n = record { head = node_head P n; numbers = map decimal (node_numbers n) }
@@ -126,8 +145,11 @@ predicate_of P (fact.Bad ns) = Bad
 abbrev pub written_fact : Protocol → Fact ℕ → LooseFact
 written_fact P f = record { predicate = predicate_of P f; numbers = map decimal (terms_of f) }
 
-abbrev pub written_clause : Protocol → Clause ℕ → LooseClause
-written_clause P c = record { hypotheses = map (written_fact P) c.hypotheses; conclusion = written_fact P c.conclusion }
+abbrev pub written_diff : SidesOf ℕ → LooseDiff
+written_diff s = record { left = map decimal s.left; right = map decimal s.right }
+
+abbrev pub written_clause : Protocol → SpelledClause ℕ → LooseClause
+written_clause P c = record { hypotheses = map (written_fact P) c.hypotheses; diffs = map written_diff c.diffs; conclusion = written_fact P c.conclusion }
 
 abbrev pub written : Protocol → NodeCertificate → LooseCertificate
 written P c = record {

@@ -10,6 +10,8 @@ use Rattle.spec_run_text.specs.Reading.{numeral}
 use Rattle.spec_terms.specs.Term.{Tuple, Attacker, Term}
 use Rattle.spec_clauses.specs.Fact.{same_term}
 use Rattle.spec_certificate_text.specs.Loose.{Head, Applied, Tupled, Made, Attackers}
+use Rattle.spec_certificate_text.specs.Outcomes.{front}
+use Rattle.spec_certificate_text.specs.Sides.{first_bound}
 use Rattle.spec_certificate_text.specs.Names.{Named, symbol_called, name_called}
 use Rattle.spec_node_tables.specs.Nodes.{term_at}
 use Rattle.spec_node_tables.specs.Text.{head_text}
@@ -42,9 +44,13 @@ pub record NodeAt : Type 0 where
   pub before : List Term
   pub node : LooseNode
 
--- a word alone that is `v` and digits is a variable
+-- whether a word is a bound variable's, which begins with `?`
+abbrev pub is_bound : List ℕ → Bool
+is_bound word = front word == 63
+
+-- a word alone that is `v` and digits, or `?` and digits, is a variable
 abbrev pub is_variable_alone : Head → List (List ℕ) → Bool
-is_variable_alone (Applied word) [] = is_variable word
+is_variable_alone (Applied word) [] = is_variable word || is_bound word
 is_variable_alone _ _ = false
 
 -- what a head that is no variable names, and how many arguments that takes: a tuple as many as there are, and it is looked at by itself
@@ -76,7 +82,7 @@ symbol_over ts None ds = Leaf 0
 symbol_over ts (Some called) ds = node called.symbol (map (λ d. term_at ts (value d)) ds)
 
 abbrev pub variable_of : Head → Term
-variable_of (Applied word) = Leaf (value (drop 1 word))
+variable_of (Applied word) = Leaf (cond (is_bound word) (first_bound + value (drop 1 word)) (value (drop 1 word)))
 variable_of _ = Leaf 0
 
 abbrev pub meant : Protocol → List Term → LooseNode → Term

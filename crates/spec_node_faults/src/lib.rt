@@ -20,7 +20,7 @@ ghost use Rattle.spec_node_faults.specs.Loose.{Att, Mess, Bad, LooseCertificate,
 ghost use Rattle.spec_certificate_text.specs.Terms.{Code, Number, Symbol, Arity, Count, NodeOrder, NodeLarge};
 ghost use Rattle.spec_node_faults.specs.Faults.{Fault, NotAfter, places, first_fault};
 ghost use Rattle.spec_node_faults.specs.Grammar.{IsInGrammar, IsNumberable};
-ghost use Rattle.spec_node_faults.specs.Examples.{over, alone, of, concludes, from, certificate, pair, enc, happened, silent_nodes, four_clauses, last_clause, Tells, fault, got, nodes, c, v0, twice, doubled};
+ghost use Rattle.spec_node_faults.specs.Examples.{over, alone, of, concludes, from, certificate, pair, enc, happened, apart, silent_nodes, four_clauses, last_clause, Tells, fault, got, nodes, c, v0, twice, doubled};
 
 /// The certificate of a name that nobody uses has no fault; without its last clause a node is never reached.
 pub fn worked_certificates()
@@ -107,6 +107,20 @@ pub fn worked_events_of_clauses()
     ensures within { Tells answering
         (certificate (c ∷ []) (happened (codes "begin") (codes "1" ∷ codes "2" ∷ []) ∷ []))
         (codes "cert 2\nn c\nc mev(begin(1,2)) => bad()\nend\n") 25 NodeOrder }
+{}
+
+/// Small texts, and the faults of constraints: a bound variable stands in a constraint alone, and a constraint has as many left
+/// sides as right ones.
+pub fn worked_constraints()
+    ensures none { first_fault sending 0 (certificate (c ∷ alone (codes "?0") ∷ [])
+        (apart (codes "1" ∷ []) (codes "2" ∷ []) ∷ [])) ≡ None }
+    ensures outside { Tells sending (certificate (alone (codes "?0") ∷ []) (got (codes "1" ∷ [])))
+        (codes "cert 2\nn ?0\nc => att(1)\nend\n") 21 Symbol }
+    ensures unpaired { Tells sending
+        (certificate (c ∷ []) (apart (codes "1" ∷ []) (codes "1" ∷ codes "1" ∷ []) ∷ []))
+        (codes "cert 2\nn c\nc diff(1;1,1) => bad()\nend\n") 13 Arity }
+    ensures number { Tells sending (nodes (alone (codes "?01") ∷ []))
+        (codes "cert 2\nn ?01\nend\n") 10 Number }
 {}
 
 /// A node of fifteen that doubles again and again has more symbols than the limit: fourteen are allowed.

@@ -7,7 +7,8 @@ use Rattle.spec_trees.proofs.Occurrence.{or_false}
 use Rattle.spec_protocol_tokens.specs.Bytes.{begins_word, is_in_word}
 use Rattle.spec_certificate_text.specs.OfProtocol.{IsShort}
 use Rattle.spec_certificate_text.specs.Spelled.{IsWord, AreDigits, Stops}
-use Rattle.spec_certificate_text.proofs.Names.{decimal_digits}
+use Rattle.spec_certificate_text.proofs.Apart.{digits_in_word}
+use Rattle.spec_certificate_text.proofs.Names.{decimal_digits, decimal_some}
 use Rattle.spec_certificate_text.proofs.Runs.{both_left, both_right, RunsApart}
 use Rattle.spec_certificate_text.specs.Outcomes.{Found, next, front, Reader, read_fixed, read_number}
 use Rattle.spec_certificate_text.proofs.Parts.{parts, equal_byte, front_is}
@@ -15,7 +16,6 @@ use Rattle.spec_reading_faults.proofs.Shared.{IsLocal, choice_local, found_local
 use Rattle.spec_reading_faults.proofs.Parts.{same_local}
 use Rattle.spec_certificate_faults.specs.Grammar.{EndsAt}
 use Rattle.spec_certificate_faults.specs.First.{Kind}
-use Rattle.spec_certificate_faults.proofs.Told.{digits_in_word, some_decimal}
 use Rattle.spec_first_faults.specs.Kinds.{fixed, IsRun, nothing_before, behind, one_of}
 use Rattle.spec_first_faults.specs.Facts.{words}
 use Rattle.spec_first_faults.specs.Numbers.{numbers}
@@ -155,7 +155,7 @@ head_text_tells =
 -- the digits of a number stand there, and no other behind them
 pub decimal_there : (n : ℕ) (rest : List ℕ) → IsShort n → EndsAt is_ascii_digit rest → IsNumberThere (decimal n ++ rest) n rest
 decimal_there n rest short ends = record {
-  digits = record { run = decimal n; some = some_decimal n short; begin = first_digit (decimal n) (some_decimal n short) (decimal_digits n short); all = decimal_digits n short; ends = ends; text = refl };
+  digits = record { run = decimal n; some = decimal_some n short; begin = first_digit (decimal n) (decimal_some n short) (decimal_digits n short); all = decimal_digits n short; ends = ends; text = refl };
   short = short;
   is = refl;
 }

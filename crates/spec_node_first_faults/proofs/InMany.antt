@@ -8,7 +8,7 @@ use Rattle.spec_reading_faults.proofs.Parts.{same_local}
 use Rattle.spec_certificate_faults.specs.First.{Kind, code_number}
 use Rattle.spec_certificate_faults.proofs.Comes.{either}
 use Rattle.spec_first_faults.specs.Kinds as plain
-use Rattle.spec_first_faults.specs.Kinds.{TextOfMany, last, further}
+use Rattle.spec_first_faults.specs.Kinds.{last, further}
 use Rattle.spec_first_faults.proofs.Tells.{Anything, Extends, GoesPastIt, IsPassed, Forms, shorter, there_shorter, goes_past, extends_to, past_to, moved_to, some_to, never_tells, each_length_tells}
 use Rattle.spec_first_faults.proofs.Behind.{first_extends, second_extends, then_read}
 use Rattle.spec_first_faults.proofs.OneOf.{chosen, IsToldBy}

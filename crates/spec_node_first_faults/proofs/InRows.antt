@@ -12,7 +12,7 @@ use Rattle.spec_first_faults.proofs.OneOf.{chosen, told_alone}
 use Rattle.spec_first_faults.proofs.Small.{fixed_forms, fixed_tells}
 use Rattle.spec_first_faults.proofs.Closed.{closed_by}
 use Rattle.spec_first_faults.proofs.Rows.{AreBehind}
-use Rattle.spec_node_reading.specs.Kinds.{KindIn, in_state, kept, behind, one_of, texts_of, many, row_of}
+use Rattle.spec_node_reading.specs.Kinds.{KindIn, in_state, kept, behind, one_of, row_of}
 use Rattle.spec_node_reading.specs.Kinds as kinds
 use Rattle.spec_node_reading.specs.Walked.{Walked}
 use Rattle.spec_node_reading.specs.Loops.{Behind, with, row_from}

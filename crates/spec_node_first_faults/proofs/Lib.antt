@@ -6,6 +6,8 @@ pub mod InRows
 pub mod WalkedNumbers
 pub mod WalkedEvents
 pub mod WalkedFacts
+pub mod WalkedDiffs
+pub mod WalkedPremises
 pub mod WalkedClauses
 pub mod InEnds
 pub mod ReachedRows

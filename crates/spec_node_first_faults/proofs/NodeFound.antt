@@ -1,5 +1,5 @@
 -- The text of a node that ends there is read as that node.
-use Rattle.std.proofs.Common.{◌≡◌, ℕ, ◌<◌, ◌≤◌, ◌==◌, inl, inr, Bool, true, false, List, [], ◌∷◌, ◌++◌, length, Some, codes, refl, sym, ◌∙◌, ap, subst, arith, length-append}
+use Rattle.std.proofs.Common.{◌≡◌, ℕ, ◌+◌, ◌<◌, ◌≤◌, ◌==◌, inl, inr, if◌then◌else◌, Bool, true, false, List, [], ◌∷◌, ◌++◌, length, drop, Some, codes, refl, sym, ◌∙◌, ap, subst, arith, length-append}
 use Rattle.std.specs.Char.{is_ascii_digit}
 use Rattle.std.specs.Fmt.{decimal}
 use Rattle.std.specs.List.{AllByRecursion}
@@ -7,27 +7,31 @@ use Rattle.spec_calculus.specs.Syntax.{Protocol}
 use Rattle.spec_protocol_tokens.specs.Bytes.{begins_word, is_in_word}
 use Rattle.spec_protocol_scope.specs.Names.{is_variable}
 use Rattle.spec_terms.specs.Term.{Sym, Ctor, Data, Tuple, Free, Point, Attacker}
-use Rattle.spec_certificate_text.specs.OfProtocol.{IsShort, HasNames, IsSymbolOf}
+use Rattle.spec_certificate_text.specs.Sides.{first_bound, variable_word}
+use Rattle.spec_certificate_text.specs.OfProtocol.{IsShort, HasNames, IsSymbolOf, most_side_variables}
 use Rattle.spec_certificate_text.specs.Spelled.{IsWord}
 use Rattle.spec_certificate_text.specs.Text.{numbers_text}
 use Rattle.spec_certificate_text.specs.Words.{symbol_word, word_at}
 use Rattle.spec_certificate_text.proofs.Names.{constructor_word, free_word, symbol_word_is_word, restriction_word_is_word, variable_is_word, decimal_digits}
 use Rattle.spec_certificate_text.proofs.Runs.{run_apart}
 use Rattle.spec_certificate_text.specs.Names.{Named, symbol_called}
-use Rattle.spec_certificate_text.specs.Outcomes.{Found, next, front, read_fixed}
+use Rattle.spec_certificate_text.specs.Outcomes.{Found, next, front, read_fixed, read_number}
 use Rattle.spec_certificate_text.proofs.Called.{free_called, constructor_called, point_called}
 use Rattle.spec_certificate_text.proofs.Parts.{Finds, joined, when_false, other_byte, fixed_found}
 use Rattle.spec_certificate_faults.specs.Grammar.{EndsAt}
 use Rattle.spec_first_faults.specs.Kinds.{IsRun}
+use Rattle.spec_first_faults.proofs.Numbers.{number_found_so}
 use Rattle.spec_node_tables.specs.Nodes.{Variable, Over}
 use Rattle.spec_node_tables.specs.Text.{node_text}
+use Rattle.spec_node_faults.proofs.Meant as meant
+use Rattle.spec_node_faults.proofs.Meant.{VariableWord, word_of_variable}
 use Rattle.spec_node_reading.specs.Nodes.{heads, spaced_numbers, bodies}
-use Rattle.spec_node_reading.specs.ReadNodes.{HeadRead, IsVariable, Names, read_head, lower_number, read_spaced, read_body}
+use Rattle.spec_node_reading.specs.ReadNodes.{HeadRead, IsVariable, Names, read_bound, read_head, lower_number, read_spaced, read_body}
 use Rattle.spec_node_first_faults.proofs.HeadWords.{Alone, AtPoint, tails, starts_point, decimal_there, stops_from}
 use Rattle.spec_node_first_faults.proofs.NodeNumbers.{lower_read}
 use Rattle.spec_node_first_faults.proofs.NodeSpaced.{ends_behind, long_text, no_space, numbers_are_read}
 use Rattle.spec_node_first_faults.proofs.NodeHeads.{starts_word, judge_head, head_found, tuple_found, variable_right, symbol_right, name_right}
-use Rattle.spec_node_first_faults.proofs.NodeBodies.{attacker_of, with_numbers, starts_at, head_front}
+use Rattle.spec_node_first_faults.proofs.NodeBodies.{attacker_of, with_numbers, starts_at, starts_bound, head_front}
 
 -- a symbol of the protocol, which takes so many arguments
 abbrev pub Takes : Protocol → Sym → ℕ → Type 0
@@ -154,14 +158,19 @@ module _ (P : Protocol) (names : HasNames P) (own : ℕ) where
   abbrev BodyFound : HeadRead → List ℕ → List ℕ → List ℕ → Type 0
   BodyFound head bytes ns rest = (at : ℕ) → Finds (read_body P own bytes at) (with_numbers head ns) rest
 
-  other_found : (head : HeadRead) (bytes ns rest : List ℕ) → starts_at bytes ≡ false → AreLower ns → HeadEnds head bytes ns rest → BodyFound head bytes ns rest
-  other_found head bytes ns rest other lower ends at =
-      when_false (starts_at bytes) (next (read_fixed (codes "@ ") bytes at) (λ _ p r. next (lower_number own r p) (λ n p r. Found (attacker_of n) p r))) (next (read_head P bytes at) (λ h p r. next (read_spaced own r p) (λ ms p r. Found (with_numbers h ms) p r))) (with_numbers head ns) rest other
+  other_found : (head : HeadRead) (bytes ns rest : List ℕ) → starts_at bytes ≡ false → starts_bound bytes ≡ false → AreLower ns → HeadEnds head bytes ns rest → BodyFound head bytes ns rest
+  other_found head bytes ns rest other no_bound lower ends at =
+      let first = next (read_fixed (codes "@ ") bytes at) (λ _ p r. next (lower_number own r p) (λ n p r. Found (attacker_of n) p r)) in
+      let second = next (read_bound (drop 1 bytes) (at + 1)) (λ h p r. Found (with_numbers h []) p r) in
+      let third = next (read_head P bytes at) (λ h p r. next (read_spaced own r p) (λ ms p r. Found (with_numbers h ms) p r)) in
+      when_false (starts_at bytes) first (if starts_bound bytes then second else third) (with_numbers head ns) rest other
+      (when_false (starts_bound bytes) second third (with_numbers head ns) rest no_bound
       (joined (read_head P bytes at) (λ h p r. next (read_spaced own r p) (λ ms p r. Found (with_numbers h ms) p r)) head (numbers_text ns rest) (with_numbers head ns) rest (ends.read at)
-      (λ p. joined (read_spaced own (numbers_text ns rest) p) (λ ms p r. Found (with_numbers head ms) p r) ns rest (with_numbers head ns) rest (numbers_are_read own ns rest p lower ends.numbers) (λ q. record { place = q; is = refl })))
+      (λ p. joined (read_spaced own (numbers_text ns rest) p) (λ ms p r. Found (with_numbers head ms) p r) ns rest (with_numbers head ns) rest (numbers_are_read own ns rest p lower ends.numbers) (λ q. record { place = q; is = refl }))))
 
   attacker_found : (n : ℕ) (rest : List ℕ) → IsShort n → 1 ≤ n → n < own → (bodies P own).Text (64 ∷ 32 ∷ (decimal n ++ rest)) rest → BodyFound (Names record { symbol = Attacker; arity = 1 }) (64 ∷ 32 ∷ (decimal n ++ rest)) (n ∷ []) rest
-  attacker_found n rest short some below (inr (mid, head, numbers)) at = absurd (let never : true ≡ false = head_front P (64 ∷ 32 ∷ (decimal n ++ rest)) mid head in cc)
+  attacker_found n rest short some below (inr (inl (mid, opens, run))) at = absurd (let never : true ≡ false = ap starts_at opens in cc)
+  attacker_found n rest short some below (inr (inr (mid, head, numbers))) at = absurd (let never : true ≡ false = head_front P 64 refl refl (64 ∷ 32 ∷ (decimal n ++ rest)) mid head in cc)
   attacker_found n rest short some below (inl (mid, opens, run)) at =
       let inner = decimal n ++ rest in
       let there : inner ≡ mid = cc in
@@ -169,25 +178,50 @@ module _ (P : Protocol) (names : HasNames P) (own : ℕ) where
       joined (read_fixed (codes "@ ") (64 ∷ 32 ∷ inner) at) (λ _ p r. next (lower_number own r p) (λ n p r. Found (attacker_of n) p r)) tt inner (attacker_of n) rest (fixed_found (codes "@ ") inner at)
       (λ p. joined (lower_number own inner p) (λ n p r. Found (attacker_of n) p r) n rest (attacker_of n) rest (lower_read own n rest p short some below ends) (λ q. record { place = q; is = refl }))
 
-  -- what stands behind the head and the numbers of a node that does not begin with `@`
-  other_text : (bytes rest : List ℕ) → starts_at bytes ≡ false → (bodies P own).Text bytes rest → (mid : List ℕ) × (heads P).Text bytes mid × (spaced_numbers own).Text mid rest
-  other_text bytes rest other (inl (mid, opens, run)) = absurd (let never : true ≡ false = sym (ap starts_at opens) ∙ other in cc)
-  other_text bytes rest other (inr text) = text
+  -- what stands behind the head and the numbers of a node that begins neither with `@` nor with `?`
+  other_text : (bytes rest : List ℕ) → starts_at bytes ≡ false → starts_bound bytes ≡ false → (bodies P own).Text bytes rest → (mid : List ℕ) × (heads P).Text bytes mid × (spaced_numbers own).Text mid rest
+  other_text bytes rest other no_bound (inl (mid, opens, run)) = absurd (let never : true ≡ false = sym (ap starts_at opens) ∙ other in cc)
+  other_text bytes rest other no_bound (inr (inl (mid, opens, run))) = absurd (let never : true ≡ false = sym (ap starts_bound opens) ∙ no_bound in cc)
+  other_text bytes rest other no_bound (inr (inr text)) = text
 
-  no_at : (w k : List ℕ) → IsWord w → starts_at (w ++ k) ≡ false
-  no_at [] k is = absurd (let never : false ≡ true = is.begins in cc)
-  no_at (b ∷ w) k is = other_byte b 64 (λ same. let never : false ≡ true = ap begins_word (sym same) ∙ is.begins in cc)
+  -- no word begins with a byte that begins none
+  no_front : (w k : List ℕ) (b : ℕ) → begins_word b ≡ false → IsWord w → (front (w ++ k) == b) ≡ false
+  no_front [] k b none is = absurd (let never : false ≡ true = is.begins in cc)
+  no_front (c ∷ w) k b none is = other_byte c b (λ same. let never : false ≡ true = sym none ∙ (ap begins_word (sym same) ∙ is.begins) in cc)
 
   symbol_found : (w ns rest : List ℕ) (named : Named) → IsWord w → is_variable w ≡ false → symbol_called P w ≡ Some named → AreLower ns → (bodies P own).Text (w ++ numbers_text ns rest) rest → BodyFound (Names named) (w ++ numbers_text ns rest) ns rest
   symbol_found w ns rest named is other called lower text =
-      let no = no_at w (numbers_text ns rest) is in
-      let (mid, head, numbers) = other_text (w ++ numbers_text ns rest) rest no text in
-      other_found (Names named) (w ++ numbers_text ns rest) ns rest no lower (symbol_ends w ns rest mid named is other called head numbers)
+      let no_at = no_front w (numbers_text ns rest) 64 refl is in
+      let no_bound = no_front w (numbers_text ns rest) 63 refl is in
+      let (mid, head, numbers) = other_text (w ++ numbers_text ns rest) rest no_at no_bound text in
+      other_found (Names named) (w ++ numbers_text ns rest) ns rest no_at no_bound lower (symbol_ends w ns rest mid named is other called head numbers)
 
-  pub variable_body : (x : ℕ) (rest : List ℕ) → IsShort x → (bodies P own).Text (node_text P (Variable x) rest) rest → BodyFound (IsVariable x) (node_text P (Variable x) rest) [] rest
-  variable_body x rest short text =
-      let (mid, head, numbers) = other_text (118 ∷ (decimal x ++ rest)) rest refl text in
-      other_found (IsVariable x) (118 ∷ (decimal x ++ rest)) [] rest refl tt (variable_ends x rest mid short head numbers)
+  own_body : (x : ℕ) (rest : List ℕ) → IsShort x → (bodies P own).Text ((118 ∷ decimal x) ++ rest) rest → BodyFound (IsVariable x) ((118 ∷ decimal x) ++ rest) [] rest
+  own_body x rest short text =
+      let (mid, head, numbers) = other_text ((118 ∷ decimal x) ++ rest) rest refl refl text in
+      other_found (IsVariable x) ((118 ∷ decimal x) ++ rest) [] rest refl refl tt (variable_ends x rest mid short head numbers)
+
+  bound_body : (i : ℕ) (rest : List ℕ) → IsShort i → (bodies P own).Text ((63 ∷ decimal i) ++ rest) rest → BodyFound (IsVariable (first_bound + i)) ((63 ∷ decimal i) ++ rest) [] rest
+  bound_body i rest short (inl (mid, opens, run)) at = absurd (let never : false ≡ true = ap starts_at opens in cc)
+  bound_body i rest short (inr (inr (mid, head, numbers))) at = absurd (let never : true ≡ false = head_front P 63 refl refl ((63 ∷ decimal i) ++ rest) mid head in cc)
+  bound_body i rest short (inr (inl (mid, opens, run))) at =
+      let inner = decimal i ++ rest in
+      let head : HeadRead = IsVariable (first_bound + i) in
+      let ends : EndsAt is_ascii_digit rest = run.ends in
+      let stands = decimal_there i rest short ends in
+      let read = number_found_so inner rest (at + 1) i stands.digits stands.short stands.is in
+      joined (read_bound inner (at + 1)) (λ h p r. Found (with_numbers h []) p r) head rest (with_numbers head []) rest
+      (joined (read_number inner (at + 1)) (λ j p r. Found (IsVariable (first_bound + j)) p r) i rest head rest record { place = read.0; is = read.1 } (λ p. record { place = p; is = refl })) (λ p. record { place = p; is = refl })
+
+  -- a variable, which may be a bound one
+  pub variable_body : (x : ℕ) (rest : List ℕ) → x < most_side_variables → (bodies P own).Text (node_text P (Variable x) rest) rest → BodyFound (IsVariable x) (node_text P (Variable x) rest) [] rest
+  variable_body x rest below text = by (word_of_variable x below)
+    where
+      by : VariableWord x → BodyFound (IsVariable x) (variable_word x ++ rest) [] rest
+      by (meant.own short word) = subst (λ w. BodyFound (IsVariable x) (w ++ rest) [] rest) (sym word) (own_body x rest short (subst (λ w. (bodies P own).Text (w ++ rest) rest) word text))
+      by (meant.bound i short same word) =
+          subst (λ w. BodyFound (IsVariable x) (w ++ rest) [] rest) (sym word)
+          (subst (λ y. BodyFound (IsVariable y) ((63 ∷ decimal i) ++ rest) [] rest) same (bound_body i rest short (subst (λ w. (bodies P own).Text (w ++ rest) rest) word text)))
 
   pub symbol_body : (f : Sym) (arity : ℕ) (ns rest : List ℕ) → Takes P f arity → AreLower ns → (f ≡ Attacker → length ns ≡ 1) → (bodies P own).Text (node_text P (Over f ns) rest) rest → BodyFound (head_of f arity) (node_text P (Over f ns) rest) ns rest
   symbol_body (Ctor f) arity ns rest is lower one text =
@@ -202,12 +236,14 @@ module _ (P : Protocol) (names : HasNames P) (own : ℕ) where
   symbol_body (Point p) arity ns rest is lower one text =
       let w = word_at P p in
       let bytes = w ++ (64 ∷ (decimal p ++ numbers_text ns rest)) in
-      let no = no_at w (64 ∷ (decimal p ++ numbers_text ns rest)) (restriction_word_is_word P p arity names is.0) in
-      let (mid, head, numbers) = other_text bytes rest no text in
-      other_found (Names record { symbol = Point p; arity = arity }) bytes ns rest no lower (point_ends p arity ns rest mid is head numbers)
+      let word = restriction_word_is_word P p arity names is.0 in
+      let no_at = no_front w (64 ∷ (decimal p ++ numbers_text ns rest)) 64 refl word in
+      let no_bound = no_front w (64 ∷ (decimal p ++ numbers_text ns rest)) 63 refl word in
+      let (mid, head, numbers) = other_text bytes rest no_at no_bound text in
+      other_found (Names record { symbol = Point p; arity = arity }) bytes ns rest no_at no_bound lower (point_ends p arity ns rest mid is head numbers)
   symbol_body (Tuple m) arity ns rest is lower one text =
-      let (mid, head, numbers) = other_text (40 ∷ 41 ∷ numbers_text ns rest) rest refl text in
-      other_found (Names record { symbol = Tuple 0; arity = 0 }) (40 ∷ 41 ∷ numbers_text ns rest) ns rest refl lower (tuple_ends ns rest mid head numbers)
+      let (mid, head, numbers) = other_text (40 ∷ 41 ∷ numbers_text ns rest) rest refl refl text in
+      other_found (Names record { symbol = Tuple 0; arity = 0 }) (40 ∷ 41 ∷ numbers_text ns rest) ns rest refl refl lower (tuple_ends ns rest mid head numbers)
   symbol_body Attacker arity ns rest is lower one text = by ns lower (one refl) text
     where
       by : (ms : List ℕ) → AreLower ms → length ms ≡ 1 → (bodies P own).Text (64 ∷ numbers_text ms rest) rest → BodyFound (Names record { symbol = Attacker; arity = arity }) (64 ∷ numbers_text ms rest) ms rest

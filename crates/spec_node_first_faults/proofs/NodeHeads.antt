@@ -17,6 +17,7 @@ use Rattle.spec_certificate_text.specs.Names.{Named, symbol_called, name_called}
 use Rattle.spec_certificate_text.specs.Terms.{Code, Syntax, Number, Symbol, Arity, Count, NodeOrder, NodeLarge}
 use Rattle.spec_certificate_text.specs.Outcomes.{Found, Faulty, next, front, ended, Reader, read_fixed, read_number}
 use Rattle.spec_certificate_text.proofs.Parts.{Finds, parts, equal_byte, fixed_there, fixed_found}
+use Rattle.spec_certificate_text.proofs.Apart.{digits_in_word}
 use Rattle.spec_certificate_text.proofs.Called.{free_called, constructor_called, point_called}
 use Rattle.spec_certificate_text.proofs.Named.{symbol_called_is}
 use Rattle.spec_certificate_text.proofs.SoundWords.{variable_rest}
@@ -25,7 +26,7 @@ use Rattle.spec_certificate_faults.specs.Grammar.{EndsAt}
 use Rattle.spec_certificate_faults.specs.TermFaults.{IsPlain, NamesNoRestriction}
 use Rattle.spec_certificate_faults.specs.First.{Kind}
 use Rattle.spec_certificate_faults.proofs.Comes.{either}
-use Rattle.spec_certificate_faults.proofs.Told.{digits_in_word, no_numeral, is_variable_word, plain_is, no_name}
+use Rattle.spec_certificate_faults.proofs.Told.{no_numeral, is_variable_word, plain_is, no_name}
 use Rattle.spec_certificate_faults.proofs.Explained.{variable_digits, no_number}
 use Rattle.spec_first_faults.specs.Kinds.{fixed}
 use Rattle.spec_first_faults.specs.Facts.{words}

@@ -261,7 +261,8 @@ module _ (P : Protocol) (names : HasNames P) (before : List Term) where
 
   body_long : (bytes rest : List ℕ) → (bodies P own).Text bytes rest → length rest + 1 ≤ length bytes
   body_long bytes rest (inl (mid, opens, run)) = omega (arith, ap length opens, ap length run.text, length-append run.run rest)
-  body_long bytes rest (inr (mid, head, numbers)) = let more = head_long bytes mid head in let less = long_text own mid rest numbers in omega (arith, more, less)
+  body_long bytes rest (inr (inl (mid, opens, run))) = omega (arith, ap length opens, ap length run.text, length-append run.run rest)
+  body_long bytes rest (inr (inr (mid, head, numbers))) = let more = head_long bytes mid head in let less = long_text own mid rest numbers in omega (arith, more, less)
 
   text_past : (bytes rest : List ℕ) → (bodies P own).Text bytes rest → GoesPastIt (bodies P own) bytes bytes
   text_past [] rest text = let long = body_long [] rest text in absurd (omega (arith, long))

@@ -43,7 +43,8 @@ numbers_turned own other bytes rest (further mid one more) = further mid one (nu
 
 body_turned : (P : Protocol) (own other : ℕ) (bytes rest : List ℕ) → (bodies P own).Text bytes rest → (bodies P other).Text bytes rest
 body_turned P own other bytes rest (inl text) = inl text
-body_turned P own other bytes rest (inr (mid, head, numbers)) = inr (mid, head, numbers_turned own other mid rest numbers)
+body_turned P own other bytes rest (inr (inl text)) = inr (inl text)
+body_turned P own other bytes rest (inr (inr (mid, head, numbers))) = inr (inr (mid, head, numbers_turned own other mid rest numbers))
 
 line_turned : (P : Protocol) (before others : List Term) (bytes rest : List ℕ) → (line_behind P before).Text bytes rest → (line_behind P others).Text bytes rest
 line_turned P before others bytes rest (mid, opens, (end, body, closes)) = (mid, opens, (end, body_turned P (own_number before) (own_number others) mid end body, closes))

@@ -1,12 +1,11 @@
 -- Events by numbers: a reader of them goes on with the walk, and tells the first fault.
 use Rattle.std.proofs.Common.{◌≡◌, ◌≢◌, ℕ, ◌+◌, ◌≤◌, ◌==◌, ◌⊎◌, inl, inr, if◌then◌else◌, Bool, true, false, List, [], ◌∷◌, ◌++◌, map, length, take, drop, Option, Some, None, codes, refl, sym, ◌∙◌, ap, subst, arith, length-append}
-use Rattle.std.specs.List.{AllByRecursion, list_all, prefix_len}
+use Rattle.std.specs.List.{list_all, prefix_len}
 use Rattle.std.proofs.lemmas.List.{length-map}
-use Rattle.spec_calculus.specs.Bounds.{most_symbols}
 use Rattle.spec_calculus.specs.Syntax.{Protocol}
 use Rattle.spec_protocol_tokens.specs.Bytes.{begins_word, is_in_word}
 use Rattle.spec_terms.specs.Term.{Term}
-use Rattle.spec_certificate_text.specs.OfProtocol.{IsShort, HasNames, IsEvent}
+use Rattle.spec_certificate_text.specs.OfProtocol.{HasNames, IsEvent}
 use Rattle.spec_certificate_text.specs.Words.{event_word}
 use Rattle.spec_certificate_text.proofs.Names.{event_word_is_word}
 use Rattle.spec_certificate_text.proofs.Runs.{both_left, both_right}
@@ -30,15 +29,14 @@ use Rattle.spec_first_faults.proofs.Numbers.{run_long, run_past}
 use Rattle.spec_first_faults.proofs.Events.{word_tests, judge_found, judge_word, word_read, word_tells, stands_alone, not_applied, ends_word, word_run, word_is_read, word_was_read}
 use Rattle.spec_node_tables.specs.Nodes.{term_at}
 use Rattle.spec_node_tables.specs.Text.{number_text, terms_text, event_over}
-use Rattle.spec_node_tables.specs.Large.{most_certificate_symbols, up_to_terms, AreUpTo}
-use Rattle.spec_node_faults.proofs.Orders.{InOrder}
 use Rattle.spec_node_reading.specs.Kinds.{KindIn, in_state, kept, behind}
-use Rattle.spec_node_reading.specs.Walked.{Walked, with_term, MayFollowAll}
+use Rattle.spec_node_reading.specs.Walked.{Walked, MayFollowAll}
 use Rattle.spec_node_reading.specs.Loops.{Behind, with}
 use Rattle.spec_node_reading.specs.Facts.{arguments, applications, performances, IsMisperformed, EventFault, events}
 use Rattle.spec_node_reading.specs.ReadClauses.{read_terms, read_applied, event_named, read_event}
-use Rattle.spec_node_reading.proofs.FactsFound.{past_all, terms_found}
-use Rattle.spec_node_reading.proofs.FactsThere.{terms_at, applied_there}
+use Rattle.spec_node_reading.proofs.Parts.{past_all, numbers_go}
+use Rattle.spec_node_reading.proofs.FactsFound.{terms_found}
+use Rattle.spec_node_reading.proofs.FactsThere.{applied_there}
 use Rattle.spec_node_first_faults.proofs.InState.{FormsIn, TellsIn, same_tells-in, tells_of-in, kept_forms, kept_tells, one_of_forms-in, one_of_tells-in, both_forms-in, both_tell-in}
 use Rattle.spec_node_first_faults.proofs.InClosed.{mapped_tells-in, forms_before, tells_before-in, behind_fixed-in, behind_fixed-forms, marked_forms-in, marked_tells-in}
 use Rattle.spec_node_first_faults.proofs.InMany.{behind_told-in}
@@ -163,7 +161,7 @@ module _ (P : Protocol) (names : HasNames P) (table : List Term) where
     mid : List ℕ
     word : IsRun begins_word is_in_word bytes mid
     is : word.run ≡ event_word P event
-    there : (at : ℕ) → Finds (read_applied P table w mid at) (with (map (term_at table) ns) (past_all P names table w ns)) rest
+    there : (at : ℕ) → Finds (read_applied P table w mid at) (with (map (term_at table) ns) (past_all table w ns)) rest
 
   -- what stands behind an event over no numbers
   ends_alone : (event takes : ℕ) (bytes rest : List ℕ) → IsEvent P event takes → bytes ≡ event_word P event ++ rest → (performances P table).Text bytes rest → EndsAt event_goes_on rest
@@ -177,14 +175,14 @@ module _ (P : Protocol) (names : HasNames P) (table : List Term) where
       none : Walked
       none = record { seen = []; clause = 0; all = 0 }
 
-  over_found : (w : Walked) (n : ℕ) (ns rest : List ℕ) → MayFollowAll table w (n ∷ ns) → (at : ℕ) → Finds (read_applied P table w (40 ∷ terms_text number_text P (n ∷ ns) (41 ∷ rest)) at) (with (map (term_at table) (n ∷ ns)) (past_all P names table w (n ∷ ns))) rest
+  over_found : (w : Walked) (n : ℕ) (ns rest : List ℕ) → MayFollowAll false table w (n ∷ ns) → (at : ℕ) → Finds (read_applied P table w (40 ∷ terms_text number_text P (n ∷ ns) (41 ∷ rest)) at) (with (map (term_at table) (n ∷ ns)) (past_all table w (n ∷ ns))) rest
   unfolding read_fixed
   over_found w n ns rest each at = let found = terms_found P names table w n ns rest (at + 1) each in record { place = found.place; is = found.is }
 
   performed_so : (w : Walked) (bytes : List ℕ) → (is : IsMisperformed P table w bytes) → IsPerformedSo w is.event is.numbers bytes is.rest
   performed_so w bytes is = by is.numbers is.each is.text
     where
-      by : (ns : List ℕ) → MayFollowAll table w ns → bytes ≡ event_over number_text P is.event ns is.rest → IsPerformedSo w is.event ns bytes is.rest
+      by : (ns : List ℕ) → MayFollowAll false table w ns → bytes ≡ event_over number_text P is.event ns is.rest → IsPerformedSo w is.event ns bytes is.rest
       by [] each text =
           let ends = ends_alone is.event is.takes bytes is.rest is.is_event text is.whole in
           let run = word_run (event_word P is.event) bytes is.rest (event_word_is_word P is.event is.takes names is.is_event) (ends_word is.rest ends) text in
@@ -219,11 +217,6 @@ module _ (P : Protocol) (names : HasNames P) (table : List Term) where
       by true told = let same : performed_as x.0 x.1 ≡ y = cc in ap (λ z. z.walked) (sym same)
       by false told = absurd (cc)
 
-  -- numbers that were read may follow
-  follow_all : (w : Walked) (ns : List ℕ) → AllByRecursion IsShort ns → InOrder table w.seen ns → AreUpTo most_symbols (up_to_terms w.clause (terms_at P table ns)) → AreUpTo most_certificate_symbols (up_to_terms w.all (terms_at P table ns)) → MayFollowAll table w ns
-  follow_all w [] short order small together = tt
-  follow_all w (n ∷ ns) short order small together = (short.0, record { in_order = order.0; clause = small.0; all = together.0 }, follow_all (with_term (term_at table n) w) ns short.1 order.1 small.1 together.1)
-
   abbrev parts_of : KindIn Walked
   parts_of = performances P table
 
@@ -252,7 +245,7 @@ module _ (P : Protocol) (names : HasNames P) (table : List Term) where
       so Arity bytes at here =
           let is = performed_so w bytes here in
           let called : CalledEvent = record { number = here.event; arity = here.takes } in
-          let x = with (map (term_at table) here.numbers) (past_all P names table w here.numbers) in
+          let x = with (map (term_at table) here.numbers) (past_all table w here.numbers) in
           let found = is.there (at + length is.word.run) in
           let named : event_called P is.word.run ≡ Some called = ap (event_called P) is.is ∙ event_word_called P names here.event here.takes here.is_event in
           record {
@@ -286,7 +279,7 @@ module _ (P : Protocol) (names : HasNames P) (table : List Term) where
             numbers = read.numbers;
             rest = behind_it.rest;
             is_event = named.is_of;
-            each = follow_all w read.numbers read.short read.through.order read.through.small read.through.together;
+            each = numbers_go table false w read.numbers read.short read.through.own read.through.order read.through.small read.through.together;
             wrong = differs;
             text = word.run.text ∙ read.text P.events cut.value.number named.has_word;
             whole = (cut.rest, word.run, found);

@@ -53,13 +53,13 @@ module _ (P : Protocol) (names : HasNames P) (table : List Term) where
   -- The kinds.
 
   abbrev second_number : KindIn Walked
-  second_number = behind (table_numbers table) (closing P table)
+  second_number = behind (table_numbers false table) (closing P table)
 
   abbrev comma_and_number : KindIn Walked
   comma_and_number = behind (kept (fixed (codes ","))) second_number
 
   second_forms : FormsIn second_number Anything
-  second_forms = closed_thing-forms (table_numbers table) (EndsAt is_ascii_digit) (codes ")") (number_forms P table) (λ rest. refl)
+  second_forms = closed_thing-forms (table_numbers false table) (EndsAt is_ascii_digit) (codes ")") (number_forms false P table) (λ rest. refl)
 
   -- a phase and `(`, and what stands behind them
   abbrev in_brackets : KindIn Walked → KindIn Walked
@@ -84,10 +84,10 @@ module _ (P : Protocol) (names : HasNames P) (table : List Term) where
   comma_ends bytes rest (mid, text, more) = subst (EndsAt is_ascii_digit) (sym text) refl
 
   abbrev after_number : KindIn Walked
-  after_number = behind (table_numbers table) comma_and_number
+  after_number = behind (table_numbers false table) comma_and_number
 
   after_forms : FormsIn after_number Anything
-  after_forms = both_forms-in (table_numbers table) comma_and_number (EndsAt is_ascii_digit) Anything (number_forms P table) comma_forms comma_ends
+  after_forms = both_forms-in (table_numbers false table) comma_and_number (EndsAt is_ascii_digit) Anything (number_forms false P table) comma_forms comma_ends
 
   sent_forms : FormsIn (sent P table) Anything
   sent_forms = opened_forms (codes "mess") (with_signs 1) (behind_phase after_number) Anything (phase_forms after_number after_forms)
@@ -117,7 +117,7 @@ module _ (P : Protocol) (names : HasNames P) (table : List Term) where
   closed_number f v = then_read (one_term P table v) (λ at x. closed_by (codes ")") (f x))
 
   number_closed : {A : Type 0} (f : Behind Term → Behind A) → ((x : Behind Term) → (f x).walked ≡ x.walked) → (v : Walked) → TellsIn second_number v Anything Anything walked_of (closed_number f v)
-  number_closed f stays v = closed_thing-in (table_numbers table) v (EndsAt is_ascii_digit) (codes ")") walked_of walked_of (one_term P table v) f (number_tells table v P) (number_forms P table) (λ rest. refl) stays
+  number_closed f stays v = closed_thing-in (table_numbers false table) v (EndsAt is_ascii_digit) (codes ")") walked_of walked_of (one_term P table v) f (number_tells false table v P) (number_forms false P table) (λ rest. refl) stays
 
   -- a phase and `(`, and the reader of what stands behind them in that phase
   abbrev phase_then : {A : Type 0} → (ℕ → Reader (Behind A)) → Reader (Behind A)
@@ -153,9 +153,9 @@ module _ (P : Protocol) (names : HasNames P) (table : List Term) where
 
   mess_tells : (v : Walked) (k : ℕ) → TellsIn after_number v Anything Anything walked_of (mess_read v k)
   mess_tells v k =
-      both_tell-in (table_numbers table) comma_and_number v Anything Anything (EndsAt is_ascii_digit) Anything walked_of walked_of (one_term P table v) (λ at x. behind_first k x) (number_tells table v P)
+      both_tell-in (table_numbers false table) comma_and_number v Anything Anything (EndsAt is_ascii_digit) Anything walked_of walked_of (one_term P table v) (λ at x. behind_first k x) (number_tells false table v P)
       (λ at x. behind_fixed-in (codes ",") x.walked second_number Anything walked_of (closed_number (mess_of k x.value) x.walked) (number_closed (mess_of k x.value) (λ y. refl) x.walked) second_forms)
-      (number_forms P table) comma_forms comma_ends (λ bs mid of text. tt)
+      (number_forms false P table) comma_forms comma_ends (λ bs mid of text. tt)
 
   message_tells : (v : Walked) → TellsIn (behind_phase after_number) v Anything Anything walked_of (phase_then (mess_read v))
   message_tells v = phase_tells after_number v (mess_read v) (mess_tells v) after_forms
@@ -324,9 +324,9 @@ module _ (P : Protocol) (names : HasNames P) (table : List Term) where
       (one_of_forms-in mev (sent P table) Anything (performed_forms (codes "mev(")) sent_forms) (one_of_forms-in ev tab_or Anything (performed_forms (codes "ev(")) tab_or-forms)
       (told_with w (λ b. b == 109) true refl) (told_without w (λ b. b == 109) false refl refl refl)
 
-  -- no hypothesis begins as ` => ` alone does
-  pub hypothesis_front : (w : Walked) → IsToldBy (in_state (hypotheses P table) w) (λ bs. front bs == 61) false
-  hypothesis_front w = either_told (in_state with_m w) (in_state without_m w) (λ bs. front bs == 61) false (told_with w (λ b. b == 61) false refl) (told_without w (λ b. b == 61) false refl refl refl)
+  -- the first byte of a hypothesis is none of the others
+  pub hypothesis_front : (w : Walked) (b : ℕ) → (109 == b) ≡ false → (101 == b) ≡ false → (116 == b) ≡ false → (97 == b) ≡ false → IsToldBy (in_state (hypotheses P table) w) (λ bs. front bs == b) false
+  hypothesis_front w b m e t a = either_told (in_state with_m w) (in_state without_m w) (λ bs. front bs == b) false (told_with w (λ c. c == b) false m) (told_without w (λ c. c == b) false e t a)
 
   abbrev bad_or : KindIn Walked
   bad_or = one_of (violated P table) tab_or

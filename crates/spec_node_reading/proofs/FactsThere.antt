@@ -1,35 +1,41 @@
--- Facts by numbers that were read are what the bytes begin with, and the walk has gone through them.
-use Rattle.std.proofs.Common.{◌≡◌, ℕ, zero, suc, ◌+◌, ◌≤◌, ◌==◌, ◌||◌, if◌then◌else◌, Bool, true, false, List, [], ◌∷◌, ◌++◌, map, length, take, drop, Option, Some, None, codes, refl, sym, ◌∙◌, ap, subst, arith, append_assoc}
+-- Facts and constraints by numbers that were read are what the bytes begin with, and the walk has gone through them.
+use Rattle.std.proofs.Common.{◌≡◌, ℕ, zero, suc, ◌+◌, ◌<◌, ◌≤◌, ◌==◌, ◌||◌, ◌&&◌, not, if◌then◌else◌, Bool, true, false, List, [], ◌∷◌, ◌++◌, map, length, take, drop, Option, Some, None, codes, refl, sym, ◌∙◌, ap, subst, arith, append_assoc}
 use Rattle.std.specs.Fmt.{decimal}
 use Rattle.std.specs.List.{AllByRecursion, prefix_len}
-use Rattle.std.proofs.lemmas.List.{append-nil, take-append-drop, length-map}
+use Rattle.std.proofs.lemmas.List.{take-append-drop, length-map, map-append}
 use Rattle.std.proofs.lemmas.Bool.Decides.{nat_tests}
 use Rattle.spec_trees.specs.Tree.{size}
 use Rattle.spec_calculus.specs.Bounds.{most_symbols}
 use Rattle.spec_calculus.specs.Syntax.{Declared, Protocol}
 use Rattle.spec_protocol_tokens.specs.Bytes.{begins_word, is_in_word}
 use Rattle.spec_terms.specs.Term.{Term}
-use Rattle.spec_clauses.specs.Fact.{Fact, Att, Mess, Tab, Ev, Mev, Bad, terms_of, map_fact, total, fact_size}
+use Rattle.spec_clauses.specs.Fact.{Fact, Att, Mess, Tab, Ev, Mev, Bad, terms_of, map_fact, total}
+use Rattle.spec_clauses.proofs.Lists.{all_append}
 use Rattle.spec_certificate_text.specs.Words.{declared_word}
 use Rattle.spec_certificate_text.specs.OfProtocol.{IsShort, IsDeclaredOver, IsPhase}
 use Rattle.spec_certificate_text.specs.Names.{CalledEvent, called_in}
+use Rattle.spec_certificate_text.specs.Sides.{SidesOf, map_sides, holds_bound}
 use Rattle.spec_certificate_text.specs.Text.{phase_text}
-use Rattle.spec_certificate_text.specs.Terms.{Syntax, Arity, NodeOrder, NodeLarge}
-use Rattle.spec_certificate_text.specs.Outcomes.{Found, Faulty, next, front, ended, read_fixed, read_number}
-use Rattle.spec_certificate_text.specs.Facts.{Performed, performed}
+use Rattle.spec_certificate_text.specs.Terms.{Syntax, Symbol, Arity, NodeOrder, NodeLarge}
+use Rattle.spec_certificate_text.specs.Outcomes.{Outcome, Found, Faulty, next, Reader, front, ended, read_fixed, read_number}
+use Rattle.spec_certificate_text.specs.Facts.{Performed, performed, paired}
 use Rattle.spec_certificate_text.proofs.Parts.{parts, chosen, equal_byte, fixed_there, ended_found, number_there}
 use Rattle.spec_certificate_text.proofs.FactsThere.{phase_then}
 use Rattle.spec_certificate_text.proofs.Called.{called_in_is}
 use Rattle.spec_node_tables.specs.Nodes.{term_at}
-use Rattle.spec_node_tables.specs.Text.{number_text, terms_text, call_over, fact_over}
-use Rattle.spec_node_tables.specs.OfProtocol.{IsFactOver}
-use Rattle.spec_node_tables.specs.Large.{most_certificate_symbols, up_to_terms, up_to_fact, AreUpTo, is_over}
+use Rattle.spec_node_tables.specs.Text.{number_text, terms_text, call_over, fact_over, sides_over}
+use Rattle.spec_node_tables.specs.OfProtocol.{IsFactOver, AreSidesOver}
+use Rattle.spec_node_tables.specs.Large.{most_certificate_symbols, up_to_terms, AreUpTo, is_over}
+use Rattle.spec_node_tables.proofs.Sizes.{total-append}
 use Rattle.spec_node_faults.specs.Clauses.{is_out_of_order}
 use Rattle.spec_node_faults.specs.Grammar.{MayBeHypothesis, MayBeConclusion}
+use Rattle.spec_node_faults.proofs.Items.{AreOwn}
 use Rattle.spec_node_faults.proofs.Orders.{InOrder}
+use Rattle.spec_node_faults.proofs.Sums.{up_to_append}
 use Rattle.spec_node_reading.specs.Walked.{Walked, with_signs, with_term}
 use Rattle.spec_node_reading.specs.Loops.{Behind, with, row_from}
-use Rattle.spec_node_reading.specs.ReadClauses.{judged_number, one_term, read_terms, read_applied, event_named, read_call, read_att, read_mess, read_called, read_performed, read_tab, read_bad, read_hypothesis, read_conclusion}
+use Rattle.spec_node_reading.specs.ReadClauses.{judged_number, one_term, read_terms, read_applied, event_named, read_call, read_att, read_mess, read_called, read_performed, read_tab, read_bad, read_hypothesis, read_conclusion, read_sides, read_diff}
+use Rattle.spec_node_reading.proofs.Parts.{Part, fact_part, diff_part, Through, through_none, through_more, order_append, Gone, gone_part}
 
 -- what was found is one
 
@@ -43,37 +49,16 @@ module _ (P : Protocol) (table : List Term) where
   abbrev pub terms_at : List ℕ → List Term
   terms_at ns = map (term_at table) ns
 
-  -- the walk has gone through the terms of these numbers
-  pub record Through (w : Walked) (ns : List ℕ) (v : Walked) : Type 0 where
-    pub order : InOrder table w.seen ns
-    pub seen : v.seen ≡ w.seen ++ terms_at ns
-    pub small : AreUpTo most_symbols (up_to_terms w.clause (terms_at ns))
-    pub together : AreUpTo most_certificate_symbols (up_to_terms w.all (terms_at ns))
-    pub clause : v.clause ≡ w.clause + total size (terms_at ns)
-    pub all : v.all ≡ w.all + total size (terms_at ns)
-
-  through_none : (w : Walked) → Through w [] w
-  through_none w = record { order = tt; seen = sym (append-nil w.seen); small = tt; together = tt; clause = omega arith; all = omega arith }
-
-  through_more : (w v : Walked) (n : ℕ) (ns : List ℕ) → is_out_of_order table w.seen n ≡ false → w.clause + size (term_at table n) ≤ most_symbols → w.all + size (term_at table n) ≤ most_certificate_symbols
-      → Through (with_term (term_at table n) w) ns v → Through w (n ∷ ns) v
-  through_more w v n ns order small together later =
-      let clause_is = later.clause in
-      let all_is = later.all in
-      record {
-        order = (order, later.order);
-        seen = later.seen ∙ append_assoc w.seen (term_at table n ∷ []) (terms_at ns);
-        small = (small, later.small);
-        together = (together, later.together);
-        clause = omega (arith, clause_is);
-        all = omega (arith, all_is);
-      }
+  -- a number of a constraint, or of a fact
+  abbrev one_tree : Bool → Walked → Reader (Behind Term)
+  one_tree binds w bytes at = next (read_number bytes at) (λ n p r. judged_number P table binds w at n p r)
 
   -- a number was read that may follow
-  record NumberThere (w : Walked) (bytes : List ℕ) (x : Behind Term) (rest : List ℕ) : Type 0 where
+  record NumberThere (binds : Bool) (w : Walked) (bytes : List ℕ) (x : Behind Term) (rest : List ℕ) : Type 0 where
     number : ℕ
     short : IsShort number
     text : bytes ≡ decimal number ++ rest
+    own : binds ≡ false → holds_bound (term_at table number) ≡ false
     order : is_out_of_order table w.seen number ≡ false
     small : w.clause + size (term_at table number) ≤ most_symbols
     together : w.all + size (term_at table number) ≤ most_certificate_symbols
@@ -83,69 +68,87 @@ module _ (P : Protocol) (table : List Term) where
   neither true b e = absurd (cc)
   neither false b e = (refl, e)
 
-  one_there : (w : Walked) (bytes : List ℕ) (at : ℕ) (x : Behind Term) (p : ℕ) (r : List ℕ) → one_term P table w bytes at ≡ Found x p r → NumberThere w bytes x r
-  one_there w bytes at x p r e =
-      let cut = parts (read_number bytes at) (λ n q k. judged_number P table w at n q k) x p r e in
+  own_there : (binds bound : Bool) → (not binds && bound) ≡ false → binds ≡ false → bound ≡ false
+  own_there true bound fine outside = absurd (cc)
+  own_there false bound fine outside = fine
+
+  one_there : (binds : Bool) (w : Walked) (bytes : List ℕ) (at : ℕ) (x : Behind Term) (p : ℕ) (r : List ℕ) → one_tree binds w bytes at ≡ Found x p r → NumberThere binds w bytes x r
+  one_there binds w bytes at x p r e =
+      let cut = parts (read_number bytes at) (λ n q k. judged_number P table binds w at n q k) x p r e in
       let there = number_there bytes at cut.value cut.place cut.rest cut.first in
       let n = cut.value in
       let t = term_at table n in
       let large = is_over most_symbols (w.clause + size t) || is_over most_certificate_symbols (w.all + size t) in
       let found = Found (with t (with_term t w)) cut.place cut.rest in
-      chosen (is_out_of_order table w.seen n) (Faulty at NodeOrder) (if large then Faulty at NodeLarge else found) x p r (NumberThere w bytes x r) cut.later
+      let in_order = if is_out_of_order table w.seen n then Faulty at NodeOrder else (if large then Faulty at NodeLarge else found) in
+      chosen (not binds && holds_bound t) (Faulty at Symbol) in_order x p r (NumberThere binds w bytes x r) cut.later
+      (λ bound never. absurd (cc))
+      (λ fine judged. chosen (is_out_of_order table w.seen n) (Faulty at NodeOrder) (if large then Faulty at NodeLarge else found) x p r (NumberThere binds w bytes x r) judged
       (λ out never. absurd (cc))
-      (λ order later. chosen large (Faulty at NodeLarge) found x p r (NumberThere w bytes x r) later
+      (λ order later. chosen large (Faulty at NodeLarge) found x p r (NumberThere binds w bytes x r) later
       (λ over never. absurd (cc))
       (λ within end.
       let (one, two) = neither (is_over most_symbols (w.clause + size t)) (is_over most_certificate_symbols (w.all + size t)) within in
       let same : with t (with_term t w) ≡ x = cc in
       let rests : cut.rest ≡ r = cc in
-      record { number = n; short = there.is; text = there.text ∙ ap (λ k. decimal n ++ k) rests; order = order; small = grind (arith, nat_tests, one); together = grind (arith, nat_tests, two); is = same }))
+      record {
+        number = n;
+        short = there.is;
+        text = there.text ∙ ap (λ k. decimal n ++ k) rests;
+        own = own_there binds (holds_bound t) fine;
+        order = order;
+        small = grind (arith, nat_tests, one);
+        together = grind (arith, nat_tests, two);
+        is = same;
+      })))
 
-  -- numbers in a row, one at least
-  record NumbersThere (w : Walked) (bytes : List ℕ) (x : Behind (List Term)) (before : List Term) (rest : List ℕ) : Type 0 where
+  -- numbers in a row, one at least, and the byte that closes it
+  record NumbersThere (binds : Bool) (closing : ℕ) (w : Walked) (bytes : List ℕ) (x : Behind (List Term)) (before : List Term) (rest : List ℕ) : Type 0 where
     first : ℕ
     others : List ℕ
     value : x.value ≡ before ++ terms_at (first ∷ others)
     short : AllByRecursion IsShort (first ∷ others)
-    text : bytes ≡ terms_text number_text P (first ∷ others) (41 ∷ rest)
-    through : Through w (first ∷ others) x.walked
+    text : bytes ≡ terms_text number_text P (first ∷ others) (closing ∷ rest)
+    through : Through table binds w (first ∷ others) x.walked
 
-  terms_more : (most : ℕ) (xs : Behind (List Term)) (bytes : List ℕ) (at : ℕ)
-      → row_from (one_term P table) 44 [] (codes ")") (suc most) xs bytes at
-      ≡ next (one_term P table xs.walked bytes at) (λ x p r.
-      if front r == 44 then next (read_fixed (44 ∷ []) r p) (λ _ p r. row_from (one_term P table) 44 [] (codes ")") most (with (xs.value ++ x.value ∷ []) x.walked) r p)
-      else next (read_fixed (codes ")") r p) (λ _ p r. Found (with (xs.value ++ x.value ∷ []) x.walked) p r))
+  abbrev row_read : Bool → ℕ → ℕ → Behind (List Term) → Reader (Behind (List Term))
+  row_read binds closing most xs bytes at = row_from (one_tree binds) 44 [] (closing ∷ []) most xs bytes at
+
+  -- what is read behind a number of a row
+  abbrev behind_number : Bool → ℕ → ℕ → List Term → Behind Term → ℕ → List ℕ → Outcome (Behind (List Term))
+  behind_number binds closing most ts x p r =
+      if front r == 44 then next (read_fixed (44 ∷ []) r p) (λ _ p r. row_read binds closing most (with (ts ++ x.value ∷ []) x.walked) r p)
+      else next (read_fixed (closing ∷ []) r p) (λ _ p r. Found (with (ts ++ x.value ∷ []) x.walked) p r)
+
+  row_more : (binds : Bool) (closing most : ℕ) (ts : List Term) (w : Walked) (bytes : List ℕ) (at : ℕ) → row_read binds closing (suc most) (with ts w) bytes at ≡ next (one_tree binds w bytes at) (λ x p r. behind_number binds closing most ts x p r)
   unfolding row_from
-  terms_more most xs bytes at = refl
+  row_more binds closing most ts w bytes at = refl
 
-  terms_none : (xs : Behind (List Term)) (bytes : List ℕ) (at : ℕ) → row_from (one_term P table) 44 [] (codes ")") 0 xs bytes at ≡ Faulty at Syntax
+  row_none : (binds : Bool) (closing : ℕ) (xs : Behind (List Term)) (bytes : List ℕ) (at : ℕ) → row_read binds closing 0 xs bytes at ≡ Faulty at Syntax
   unfolding row_from
-  terms_none xs bytes at = refl
+  row_none binds closing xs bytes at = refl
 
-  terms_there : (most : ℕ) (ts : List Term) (w : Walked) (bytes : List ℕ) (at : ℕ) (y : Behind (List Term)) (p : ℕ) (r : List ℕ) → row_from (one_term P table) 44 [] (codes ")") most (with ts w) bytes at ≡ Found y p r → NumbersThere w bytes y ts r
-  terms_there zero ts w bytes at y p r e = let never : Faulty at Syntax ≡ Found y p r = sym (terms_none (with ts w) bytes at) ∙ e in absurd (cc)
-  terms_there (suc most) ts w bytes at y p r e =
-      let cut = parts (one_term P table w bytes at) (λ x q k.
-      if front k == 44 then next (read_fixed (44 ∷ []) k q) (λ _ q k. row_from (one_term P table) 44 [] (codes ")") most (with (ts ++ x.value ∷ []) x.walked) k q)
-      else next (read_fixed (codes ")") k q) (λ _ q k. Found (with (ts ++ x.value ∷ []) x.walked) q k)) y p r (sym (terms_more most (with ts w) bytes at) ∙ e) in
-      let one = one_there w bytes at cut.value cut.place cut.rest cut.first in
-      by (λ us v bs from z q k told. terms_there most us v bs from z q k told) cut.value cut.place cut.rest one cut.later
+  row_there : (binds : Bool) (closing most : ℕ) (ts : List Term) (w : Walked) (bytes : List ℕ) (at : ℕ) (y : Behind (List Term)) (p : ℕ) (r : List ℕ) → row_read binds closing most (with ts w) bytes at ≡ Found y p r → NumbersThere binds closing w bytes y ts r
+  row_there binds closing zero ts w bytes at y p r e = let never : Faulty at Syntax ≡ Found y p r = sym (row_none binds closing (with ts w) bytes at) ∙ e in absurd (cc)
+  row_there binds closing (suc most) ts w bytes at y p r e =
+      let cut = parts (one_tree binds w bytes at) (λ x q k. behind_number binds closing most ts x q k) y p r (sym (row_more binds closing most ts w bytes at) ∙ e) in
+      let one = one_there binds w bytes at cut.value cut.place cut.rest cut.first in
+      by (λ us v bs from z q k told. row_there binds closing most us v bs from z q k told) cut.value cut.place cut.rest one cut.later
     where
-      by : ((us : List Term) (v : Walked) (bs : List ℕ) (from : ℕ) (z : Behind (List Term)) (q : ℕ) (k : List ℕ) → row_from (one_term P table) 44 [] (codes ")") most (with us v) bs from ≡ Found z q k → NumbersThere v bs z us k) → (x : Behind Term) (q : ℕ) (k : List ℕ) → NumberThere w bytes x k
-          → (if front k == 44 then next (read_fixed (44 ∷ []) k q) (λ _ q k. row_from (one_term P table) 44 [] (codes ")") most (with (ts ++ x.value ∷ []) x.walked) k q) else next (read_fixed (codes ")") k q) (λ _ q k. Found (with (ts ++ x.value ∷ []) x.walked) q k)) ≡ Found y p r
-          → NumbersThere w bytes y ts r
+      by : ((us : List Term) (v : Walked) (bs : List ℕ) (from : ℕ) (z : Behind (List Term)) (q : ℕ) (k : List ℕ) → row_read binds closing most (with us v) bs from ≡ Found z q k → NumbersThere binds closing v bs z us k)
+          → (x : Behind Term) (q : ℕ) (k : List ℕ) → NumberThere binds w bytes x k → behind_number binds closing most ts x q k ≡ Found y p r → NumbersThere binds closing w bytes y ts r
       by again x q k one found =
           let n = one.number in
           let t = term_at table n in
           let so = one.is in
-          let comma = next (read_fixed (44 ∷ []) k q) (λ _ q k. row_from (one_term P table) 44 [] (codes ")") most (with (ts ++ x.value ∷ []) x.walked) k q) in
-          let close = next (read_fixed (codes ")") k q) (λ _ q k. Found (with (ts ++ x.value ∷ []) x.walked) q k) in
-          chosen (front k == 44) comma close y p r (NumbersThere w bytes y ts r) found
+          let comma = next (read_fixed (44 ∷ []) k q) (λ _ q k. row_read binds closing most (with (ts ++ x.value ∷ []) x.walked) k q) in
+          let close = next (read_fixed (closing ∷ []) k q) (λ _ q k. Found (with (ts ++ x.value ∷ []) x.walked) q k) in
+          chosen (front k == 44) comma close y p r (NumbersThere binds closing w bytes y ts r) found
           (λ is goes.
-          let end = parts (read_fixed (44 ∷ []) k q) (λ _ q k. row_from (one_term P table) 44 [] (codes ")") most (with (ts ++ x.value ∷ []) x.walked) k q) y p r goes in
+          let end = parts (read_fixed (44 ∷ []) k q) (λ _ q k. row_read binds closing most (with (ts ++ x.value ∷ []) x.walked) k q) y p r goes in
           let commas = fixed_there (44 ∷ []) k q end.value end.place end.rest end.first in
-          let read : row_from (one_term P table) 44 [] (codes ")") most (with (ts ++ t ∷ []) (with_term t w)) end.rest end.place ≡ Found y p r =
-          ap (λ z. row_from (one_term P table) 44 [] (codes ")") most (with (ts ++ z.value ∷ []) z.walked) end.rest end.place) so ∙ end.later in
+          let read : row_read binds closing most (with (ts ++ t ∷ []) (with_term t w)) end.rest end.place ≡ Found y p r =
+          ap (λ z. row_read binds closing most (with (ts ++ z.value ∷ []) z.walked) end.rest end.place) so ∙ end.later in
           let others = again (ts ++ t ∷ []) (with_term t w) end.rest end.place y p r read in
           record {
             first = n;
@@ -153,11 +156,11 @@ module _ (P : Protocol) (table : List Term) where
             value = others.value ∙ append_assoc ts (t ∷ []) (terms_at (others.first ∷ others.others));
             short = (one.short, others.short);
             text = one.text ∙ ap (λ s. decimal n ++ s) (commas ∙ ap (λ s. 44 ∷ s) others.text);
-            through = through_more w y.walked n (others.first ∷ others.others) one.order one.small one.together others.through;
+            through = through_more table binds w y.walked n (others.first ∷ others.others) one.own one.order one.small one.together others.through;
           })
           (λ isnt ends.
-          let end = parts (read_fixed (codes ")") k q) (λ _ q k. Found (with (ts ++ x.value ∷ []) x.walked) q k) y p r ends in
-          let closes = fixed_there (codes ")") k q end.value end.place end.rest end.first in
+          let end = parts (read_fixed (closing ∷ []) k q) (λ _ q k. Found (with (ts ++ x.value ∷ []) x.walked) q k) y p r ends in
+          let closes = fixed_there (closing ∷ []) k q end.value end.place end.rest end.first in
           let last : with (ts ++ x.value ∷ []) x.walked ≡ y = cc in
           let rests : end.rest ≡ r = cc in
           let whole : with (ts ++ t ∷ []) (with_term t w) ≡ y = ap (λ z. with (ts ++ z.value ∷ []) z.walked) so ∙ last in
@@ -166,9 +169,12 @@ module _ (P : Protocol) (table : List Term) where
             others = [];
             value = ap (λ z. z.value) (sym whole);
             short = (one.short, tt);
-            text = one.text ∙ ap (λ s. decimal n ++ s) (closes ∙ ap (λ s. 41 ∷ s) rests);
-            through = through_more w y.walked n [] one.order one.small one.together (subst (λ z. Through (with_term t w) [] z.walked) whole (through_none (with_term t w)));
+            text = one.text ∙ ap (λ s. decimal n ++ s) (closes ∙ ap (λ s. closing ∷ s) rests);
+            through = through_more table binds w y.walked n [] one.own one.order one.small one.together (subst (λ z. Through table binds (with_term t w) [] z.walked) whole (through_none table binds (with_term t w)));
           })
+
+  terms_there : (w : Walked) (bytes : List ℕ) (at : ℕ) (y : Behind (List Term)) (p : ℕ) (r : List ℕ) → read_terms P table w bytes at ≡ Found y p r → NumbersThere false 41 w bytes y [] r
+  terms_there w bytes at y p r e = row_there false 41 (suc (length bytes)) [] w bytes at y p r e
 
   -- Events and entries.
 
@@ -178,7 +184,7 @@ module _ (P : Protocol) (table : List Term) where
     pub value : x.value ≡ terms_at numbers
     pub short : AllByRecursion IsShort numbers
     pub text : (ds : List Declared) (e : ℕ) → declared_word ds e ≡ word → word ++ bytes ≡ call_over number_text P ds e numbers rest
-    pub through : Through w numbers x.walked
+    pub through : Through table false w numbers x.walked
 
   pub applied_there : (w : Walked) (word bytes : List ℕ) (at : ℕ) (x : Behind (List Term)) (p : ℕ) (r : List ℕ) → read_applied P table w bytes at ≡ Found x p r → AppliedThere w word bytes x r
   applied_there w word bytes at x p r e =
@@ -186,7 +192,7 @@ module _ (P : Protocol) (table : List Term) where
       (λ is goes.
       let cut = parts (read_fixed (codes "(") bytes at) (λ _ q k. read_terms P table w k q) x p r goes in
       let opens = fixed_there (codes "(") bytes at cut.value cut.place cut.rest cut.first in
-      let there = terms_there (suc (length cut.rest)) [] w cut.rest cut.place x p r cut.later in
+      let there = terms_there w cut.rest cut.place x p r cut.later in
       record {
         numbers = there.first ∷ there.others;
         value = there.value;
@@ -202,7 +208,7 @@ module _ (P : Protocol) (table : List Term) where
         value = ap (λ z. z.value) (sym same);
         short = tt;
         text = λ ds e named. ap (λ s. word ++ s) rests ∙ ap (λ v. v ++ r) (sym named);
-        through = subst (λ z. Through w [] z.walked) same (through_none w);
+        through = subst (λ z. Through table false w [] z.walked) same (through_none table false w);
       })
 
   record CallThere (ds : List Declared) (w : Walked) (bytes : List ℕ) (x : Behind Performed) (rest : List ℕ) : Type 0 where
@@ -211,7 +217,7 @@ module _ (P : Protocol) (table : List Term) where
     event : IsDeclaredOver ds x.value.event (length numbers)
     short : AllByRecursion IsShort numbers
     text : bytes ≡ call_over number_text P ds x.value.event numbers rest
-    through : Through w numbers x.walked
+    through : Through table false w numbers x.walked
 
   named_there : (ds : List Declared) (w : Walked) (bytes word : List ℕ) (called : Option CalledEvent) (from q : ℕ) (k : List ℕ) (x : Behind Performed) (p : ℕ) (r : List ℕ) → bytes ≡ word ++ k → called_in ds word ≡ called → event_named P table called w from q k ≡ Found x p r → CallThere ds w bytes x r
   named_there ds w bytes word None from q k x p r text is found = absurd (cc)
@@ -260,12 +266,8 @@ module _ (P : Protocol) (table : List Term) where
     pub meant : map_fact (term_at table) numbered ≡ x.value
     pub is : IsFactOver IsShort P numbered
     pub text : bytes ≡ fact_over number_text P numbered rest
-    pub order : InOrder table w.seen (terms_of numbered)
-    pub seen : x.walked.seen ≡ w.seen ++ terms_at (terms_of numbered)
-    pub small : AreUpTo most_symbols (up_to_fact w.clause x.value)
-    pub together : AreUpTo most_certificate_symbols (up_to_fact w.all x.value)
-    pub clause : x.walked.clause ≡ w.clause + fact_size x.value
-    pub all : x.walked.all ≡ w.all + fact_size x.value
+    pub gone : Gone table w (fact_part numbered ∷ []) x.walked
+    pub own : AreOwn table (terms_of numbered)
     pub may : May x.value
 
   att_there : (May : Fact Term → Type 0) → ((k : ℕ) (t : Term) → May (Att k t)) → (w : Walked) (bytes : List ℕ) (at : ℕ) (x : Behind (Fact Term)) (p : ℕ) (r : List ℕ) → read_att P table w bytes at ≡ Found x p r → FactThere May w bytes x r
@@ -273,7 +275,7 @@ module _ (P : Protocol) (table : List Term) where
       let begin = phase_then P (codes "att") (λ k p r. next (one_term P table (with_signs 1 w) r p) (λ x p r. next (read_fixed (codes ")") r p) (λ _ p r. Found (with (Att k x.value) x.walked) p r))) bytes at x p r e in
       let phase = begin.phase in
       let cut = parts (one_term P table (with_signs 1 w) begin.rest begin.place) _ x p r begin.later in
-      let one = one_there (with_signs 1 w) begin.rest begin.place cut.value cut.place cut.rest cut.first in
+      let one = one_there false (with_signs 1 w) begin.rest begin.place cut.value cut.place cut.rest cut.first in
       let end = parts (read_fixed (codes ")") cut.rest cut.place) _ x p r cut.later in
       let closes = fixed_there (codes ")") cut.rest cut.place end.value end.place end.rest end.first in
       let last : with (Att phase cut.value.value) cut.value.walked ≡ x = cc in
@@ -282,27 +284,23 @@ module _ (P : Protocol) (table : List Term) where
       let t = term_at table n in
       let so = one.is in
       let whole : with (Att phase t) (with_term t (with_signs 1 w)) ≡ x = ap (λ y. with (Att phase y.value) y.walked) so ∙ last in
-      let through = through_more (with_signs 1 w) (with_term t (with_signs 1 w)) n [] one.order one.small one.together (through_none (with_term t (with_signs 1 w))) in
+      let through = through_more table false (with_signs 1 w) (with_term t (with_signs 1 w)) n [] one.own one.order one.small one.together (through_none table false (with_term t (with_signs 1 w))) in
       subst (λ y. FactThere May w bytes y r) whole record {
         numbered = Att phase n;
         meant = refl;
         is = (begin.is, (one.short, tt));
         text = begin.text ∙ ap (λ s. codes "att" ++ phase_text phase (40 ∷ s)) (one.text ∙ ap (λ s. decimal n ++ s) (closes ∙ ap (λ s. 41 ∷ s) rests));
-        order = through.order;
-        seen = through.seen;
-        small = through.small;
-        together = through.together;
-        clause = omega arith;
-        all = omega arith;
+        gone = gone_part table (fact_part (Att phase n)) w (with_term t (with_signs 1 w)) through;
+        own = through.own refl;
         may = may phase t;
       }
 
   -- two numbers that may follow one another
   mess_of : (May : Fact Term → Type 0) (phase : ℕ) → IsPhase P phase → ((t u : Term) → May (Mess phase t u)) → (w : Walked) (bytes : List ℕ) (x : Behind (Fact Term)) (r : List ℕ)
-      → (m : ℕ) → IsShort m → is_out_of_order table w.seen m ≡ false → w.clause + 1 + size (term_at table m) ≤ most_symbols → w.all + 1 + size (term_at table m) ≤ most_certificate_symbols
-      → (y z : Behind Term) (n : ℕ) → IsShort n → with (term_at table m) (with_term (term_at table m) (with_signs 1 w)) ≡ y → is_out_of_order table y.walked.seen n ≡ false → y.walked.clause + size (term_at table n) ≤ most_symbols → y.walked.all + size (term_at table n) ≤ most_certificate_symbols
+      → (m : ℕ) → IsShort m → (false ≡ false → holds_bound (term_at table m) ≡ false) → is_out_of_order table w.seen m ≡ false → w.clause + 1 + size (term_at table m) ≤ most_symbols → w.all + 1 + size (term_at table m) ≤ most_certificate_symbols
+      → (y z : Behind Term) (n : ℕ) → IsShort n → (false ≡ false → holds_bound (term_at table n) ≡ false) → with (term_at table m) (with_term (term_at table m) (with_signs 1 w)) ≡ y → is_out_of_order table y.walked.seen n ≡ false → y.walked.clause + size (term_at table n) ≤ most_symbols → y.walked.all + size (term_at table n) ≤ most_certificate_symbols
       → with (term_at table n) (with_term (term_at table n) y.walked) ≡ z → bytes ≡ codes "mess" ++ phase_text phase (40 ∷ (decimal m ++ (44 ∷ (decimal n ++ (41 ∷ r))))) → with (Mess phase y.value z.value) z.walked ≡ x → FactThere May w bytes x r
-  mess_of May phase in_phase may w bytes x r m short order small together y z n short_n first order_n small_n together_n second text last =
+  mess_of May phase in_phase may w bytes x r m short own order small together y z n short_n own_n first order_n small_n together_n second text last =
       let t = term_at table m in
       let u = term_at table n in
       let v : Walked = with_term t (with_signs 1 w) in
@@ -310,19 +308,15 @@ module _ (P : Protocol) (table : List Term) where
       let ordered : is_out_of_order table v.seen n ≡ false = ap (λ b. is_out_of_order table b.walked.seen n) first ∙ order_n in
       let fits : v.clause + size u ≤ most_symbols = subst (λ b. b.walked.clause + size u ≤ most_symbols) (sym first) small_n in
       let all_fit : v.all + size u ≤ most_certificate_symbols = subst (λ b. b.walked.all + size u ≤ most_certificate_symbols) (sym first) together_n in
-      let through = through_more (with_signs 1 w) end m (n ∷ []) order small together (through_more v end n [] ordered fits all_fit (through_none end)) in
+      let through = through_more table false (with_signs 1 w) end m (n ∷ []) own order small together (through_more table false v end n [] own_n ordered fits all_fit (through_none table false end)) in
       let whole : with (Mess phase t u) end ≡ x = ap (λ b. with (Mess phase b.value u) (with_term u b.walked)) first ∙ (ap (λ b. with (Mess phase y.value b.value) b.walked) second ∙ last) in
       subst (λ b. FactThere May w bytes b r) whole record {
         numbered = Mess phase m n;
         meant = refl;
         is = (in_phase, (short, (short_n, tt)));
         text = text;
-        order = through.order;
-        seen = through.seen;
-        small = through.small;
-        together = through.together;
-        clause = omega arith;
-        all = omega arith;
+        gone = gone_part table (fact_part (Mess phase m n)) w end through;
+        own = through.own refl;
         may = may t u;
       }
 
@@ -331,25 +325,24 @@ module _ (P : Protocol) (table : List Term) where
       let begin = phase_then P (codes "mess") (λ k p r. next (one_term P table (with_signs 1 w) r p) (λ x p r. next (read_fixed (codes ",") r p) (λ _ p r. next (one_term P table x.walked r p) (λ y p r. next (read_fixed (codes ")") r p) (λ _ p r. Found (with (Mess k x.value y.value) y.walked) p r))))) bytes at x p r e in
       let phase = begin.phase in
       let cut = parts (one_term P table (with_signs 1 w) begin.rest begin.place) _ x p r begin.later in
-      let one = one_there (with_signs 1 w) begin.rest begin.place cut.value cut.place cut.rest cut.first in
+      let one = one_there false (with_signs 1 w) begin.rest begin.place cut.value cut.place cut.rest cut.first in
       let comma = parts (read_fixed (codes ",") cut.rest cut.place) _ x p r cut.later in
       let commas = fixed_there (codes ",") cut.rest cut.place comma.value comma.place comma.rest comma.first in
       let again = parts (one_term P table cut.value.walked comma.rest comma.place) _ x p r comma.later in
-      let two = one_there cut.value.walked comma.rest comma.place again.value again.place again.rest again.first in
+      let two = one_there false cut.value.walked comma.rest comma.place again.value again.place again.rest again.first in
       let end = parts (read_fixed (codes ")") again.rest again.place) _ x p r again.later in
       let closes = fixed_there (codes ")") again.rest again.place end.value end.place end.rest end.first in
       let last = found_value (with (Mess phase cut.value.value again.value.value) again.value.walked) x end.place p end.rest r end.later in
       let rests = found_rest (with (Mess phase cut.value.value again.value.value) again.value.walked) x end.place p end.rest r end.later in
       let text = begin.text ∙ ap (λ s. codes "mess" ++ phase_text phase (40 ∷ s)) (one.text ∙ ap (λ s. decimal one.number ++ s) (commas ∙ ap (λ s. 44 ∷ s) (two.text ∙ ap (λ s. decimal two.number ++ s) (closes ∙ ap (λ s. 41 ∷ s) rests)))) in
-      mess_of May phase begin.is (may phase) w bytes x r one.number one.short one.order one.small one.together cut.value again.value two.number two.short one.is two.order two.small two.together two.is text last
+      mess_of May phase begin.is (may phase) w bytes x r one.number one.short one.own one.order one.small one.together cut.value again.value two.number two.short two.own one.is two.order two.small two.together two.is text last
 
   -- a fact of an event or a table
   called_there : (ds : List Declared) (May : Fact Term → Type 0) → (word : List ℕ) (by_numbers : ℕ → List ℕ → Fact ℕ) (fact : ℕ → List Term → Fact Term) → ((e : ℕ) (ns : List ℕ) → map_fact (term_at table) (by_numbers e ns) ≡ fact e (terms_at ns))
       → ((e : ℕ) (ns : List ℕ) → IsDeclaredOver ds e (length ns) → AllByRecursion IsShort ns → IsFactOver IsShort P (by_numbers e ns))
-      → ((e : ℕ) (ns : List ℕ) (rest : List ℕ) → word ++ call_over number_text P ds e ns (41 ∷ rest) ≡ fact_over number_text P (by_numbers e ns) rest) → ((e : ℕ) (ns : List ℕ) → terms_of (by_numbers e ns) ≡ ns)
-      → ((before e : ℕ) (ts : List Term) → up_to_fact before (fact e ts) ≡ up_to_terms (before + 2) ts) → ((e : ℕ) (ts : List Term) → fact_size (fact e ts) ≡ 2 + total size ts) → ((e : ℕ) (ts : List Term) → May (fact e ts))
+      → ((e : ℕ) (ns : List ℕ) (rest : List ℕ) → word ++ call_over number_text P ds e ns (41 ∷ rest) ≡ fact_over number_text P (by_numbers e ns) rest) → ((e : ℕ) (ns : List ℕ) → fact_part (by_numbers e ns) ≡ record { binds = false; signs = 2; numbers = ns }) → ((e : ℕ) (ts : List Term) → May (fact e ts))
       → (w : Walked) (bytes : List ℕ) (at : ℕ) (x : Behind (Fact Term)) (p : ℕ) (r : List ℕ) → read_called P table (read_call P table ds) word fact w bytes at ≡ Found x p r → FactThere May w bytes x r
-  called_there ds May word by_numbers fact means is_over text_of terms_are up_to sizes may w bytes at x p r e =
+  called_there ds May word by_numbers fact means is_over text_of parts_are may w bytes at x p r e =
       let begin = parts (read_fixed word bytes at) _ x p r e in
       let opens = fixed_there word bytes at begin.value begin.place begin.rest begin.first in
       let cut = parts (read_call P table ds (with_signs 2 w) begin.rest begin.place) _ x p r begin.later in
@@ -362,34 +355,27 @@ module _ (P : Protocol) (table : List Term) where
       let event = cut.value.value.event in
       let v = cut.value.walked in
       let whole : with (fact event (terms_at ns)) v ≡ x = ap (λ ts. with (fact event ts) v) (sym one.arguments) ∙ last in
-      let clause_is = one.through.clause in
-      let all_is = one.through.all in
-      let size_is = sizes event (terms_at ns) in
       subst (λ y. FactThere May w bytes y r) whole record {
         numbered = by_numbers event ns;
         meant = means event ns;
         is = is_over event ns one.event one.short;
         text = opens ∙ (ap (λ s. word ++ s) (one.text ∙ ap (call_over number_text P ds event ns) (closes ∙ ap (λ s. 41 ∷ s) rests)) ∙ text_of event ns r);
-        order = subst (InOrder table w.seen) (sym (terms_are event ns)) one.through.order;
-        seen = one.through.seen ∙ ap (λ ms. w.seen ++ terms_at ms) (sym (terms_are event ns));
-        small = subst (AreUpTo most_symbols) (sym (up_to w.clause event (terms_at ns))) one.through.small;
-        together = subst (AreUpTo most_certificate_symbols) (sym (up_to w.all event (terms_at ns))) one.through.together;
-        clause = omega (arith, clause_is, size_is);
-        all = omega (arith, all_is, size_is);
+        gone = subst (λ q. Gone table w (q ∷ []) v) (sym (parts_are event ns)) (gone_part table (record { binds = false; signs = 2; numbers = ns }) w v one.through);
+        own = subst (λ (q : Part). AreOwn table q.numbers) (sym (parts_are event ns)) (one.through.own refl);
         may = may event (terms_at ns);
       }
 
   ev_there : (May : Fact Term → Type 0) → ((e : ℕ) (ts : List Term) → May (Ev e ts)) → (w : Walked) (bytes : List ℕ) (at : ℕ) (x : Behind (Fact Term)) (p : ℕ) (r : List ℕ) → read_performed P table (codes "ev(") (λ e ts. Ev e ts) w bytes at ≡ Found x p r → FactThere May w bytes x r
   ev_there May may w bytes at x p r e =
-      called_there P.events May (codes "ev(") (λ e ns. Ev e ns) (λ e ts. Ev e ts) (λ e ns. refl) (λ e ns is short. (is, short)) (λ e ns rest. refl) (λ e ns. refl) (λ before e ts. refl) (λ e ts. refl) may w bytes at x p r e
+      called_there P.events May (codes "ev(") (λ e ns. Ev e ns) (λ e ts. Ev e ts) (λ e ns. refl) (λ e ns is short. (is, short)) (λ e ns rest. refl) (λ e ns. refl) may w bytes at x p r e
 
   mev_there : (May : Fact Term → Type 0) → ((e : ℕ) (ts : List Term) → May (Mev e ts)) → (w : Walked) (bytes : List ℕ) (at : ℕ) (x : Behind (Fact Term)) (p : ℕ) (r : List ℕ) → read_performed P table (codes "mev(") (λ e ts. Mev e ts) w bytes at ≡ Found x p r → FactThere May w bytes x r
   mev_there May may w bytes at x p r e =
-      called_there P.events May (codes "mev(") (λ e ns. Mev e ns) (λ e ts. Mev e ts) (λ e ns. refl) (λ e ns is short. (is, short)) (λ e ns rest. refl) (λ e ns. refl) (λ before e ts. refl) (λ e ts. refl) may w bytes at x p r e
+      called_there P.events May (codes "mev(") (λ e ns. Mev e ns) (λ e ts. Mev e ts) (λ e ns. refl) (λ e ns is short. (is, short)) (λ e ns rest. refl) (λ e ns. refl) may w bytes at x p r e
 
   tab_there : (May : Fact Term → Type 0) → ((n : ℕ) (ts : List Term) → May (Tab n ts)) → (w : Walked) (bytes : List ℕ) (at : ℕ) (x : Behind (Fact Term)) (p : ℕ) (r : List ℕ) → read_tab P table w bytes at ≡ Found x p r → FactThere May w bytes x r
   tab_there May may w bytes at x p r e =
-      called_there P.tables May (codes "tab(") (λ n ns. Tab n ns) (λ n ts. Tab n ts) (λ n ns. refl) (λ n ns is short. (is, short)) (λ n ns rest. refl) (λ n ns. refl) (λ before n ts. refl) (λ n ts. refl) may w bytes at x p r e
+      called_there P.tables May (codes "tab(") (λ n ns. Tab n ns) (λ n ts. Tab n ts) (λ n ns. refl) (λ n ns is short. (is, short)) (λ n ns rest. refl) (λ n ns. refl) may w bytes at x p r e
 
   bad_there : (May : Fact Term → Type 0) → ((ts : List Term) → May (Bad ts)) → (w : Walked) (bytes : List ℕ) (at : ℕ) (x : Behind (Fact Term)) (p : ℕ) (r : List ℕ) → read_bad P table w bytes at ≡ Found x p r → FactThere May w bytes x r
   bad_there May may w bytes at x p r e =
@@ -406,35 +392,25 @@ module _ (P : Protocol) (table : List Term) where
         meant = refl;
         is = (tt, tt);
         text = opens ∙ ap (λ s. codes "bad(" ++ s) (closes ∙ ap (λ s. 41 ∷ s) rests);
-        order = tt;
-        seen = sym (append-nil w.seen);
-        small = tt;
-        together = tt;
-        clause = omega arith;
-        all = omega arith;
+        gone = gone_part table (fact_part (Bad [])) w (with_signs 1 w) (through_none table false (with_signs 1 w));
+        own = tt;
         may = may [];
       })
       (λ isnt some.
       let cut = parts (read_terms P table (with_signs 1 w) begin.rest begin.place) (λ y q k. Found (with (Bad y.value) y.walked) q k) x p r some in
-      let there = terms_there (suc (length begin.rest)) [] (with_signs 1 w) begin.rest begin.place cut.value cut.place cut.rest cut.first in
+      let there = terms_there (with_signs 1 w) begin.rest begin.place cut.value cut.place cut.rest cut.first in
       let last : with (Bad cut.value.value) cut.value.walked ≡ x = cc in
       let rests : cut.rest ≡ r = cc in
       let ns = there.first ∷ there.others in
       let v = cut.value.walked in
-      let clause_is = there.through.clause in
-      let all_is = there.through.all in
       let whole : with (Bad (terms_at ns)) v ≡ x = ap (λ ts. with (Bad ts) v) (sym there.value) ∙ last in
       subst (λ y. FactThere May w bytes y r) whole record {
         numbered = Bad ns;
         meant = refl;
         is = (tt, there.short);
         text = opens ∙ ap (λ s. codes "bad(" ++ s) (there.text ∙ ap (λ s. terms_text number_text P ns (41 ∷ s)) rests);
-        order = there.through.order;
-        seen = there.through.seen;
-        small = there.through.small;
-        together = there.through.together;
-        clause = omega (arith, clause_is);
-        all = omega (arith, all_is);
+        gone = gone_part table (fact_part (Bad ns)) w v there.through;
+        own = there.through.own refl;
         may = may (terms_at ns);
       })
 
@@ -469,3 +445,101 @@ module _ (P : Protocol) (table : List Term) where
       (λ no_b last. chosen (front bytes == 116) (read_tab P table w bytes at) (read_att P table w bytes at) x p r T last
       (λ is told. tab_there MayBeConclusion (λ n ts. tt) w bytes at x p r told)
       (λ isnt told. att_there MayBeConclusion (λ k t. tt) w bytes at x p r told))))
+
+  -- Constraints.
+
+  -- a constraint by numbers that was read, and the walk through it
+  pub record DiffThere (w : Walked) (bytes : List ℕ) (x : Behind (SidesOf Term)) (rest : List ℕ) : Type 0 where
+    pub numbered : SidesOf ℕ
+    pub meant : map_sides (term_at table) numbered ≡ x.value
+    pub is : AreSidesOver IsShort numbered
+    pub text : bytes ≡ sides_over number_text P numbered rest
+    pub gone : Gone table w (diff_part numbered ∷ []) x.walked
+
+  through_append : (w u v : Walked) (ms ns : List ℕ) → Through table true w ms u → Through table true u ns v → Through table true w (ms ++ ns) v
+  through_append w u v ms ns first later =
+      let numbers : terms_at (ms ++ ns) ≡ terms_at ms ++ terms_at ns = map-append (term_at table) ms ns in
+      let clause_is = first.clause in
+      let all_is = first.all in
+      let later_clause = later.clause in
+      let later_all = later.all in
+      let sizes : total size (terms_at (ms ++ ns)) ≡ total size (terms_at ms) + total size (terms_at ns) = ap (total size) numbers ∙ total-append size (terms_at ms) (terms_at ns) in
+      record {
+        own = λ outside. absurd (let never : true ≡ false = outside in cc);
+        order = order_append table w.seen ms ns first.order (subst (λ us. InOrder table us ns) first.seen later.order);
+        seen = later.seen ∙ (ap (λ us. us ++ terms_at ns) first.seen ∙ (append_assoc w.seen (terms_at ms) (terms_at ns) ∙ ap (λ us. w.seen ++ us) (sym numbers)));
+        small = both most_symbols w.clause u.clause clause_is first.small later.small;
+        together = both most_certificate_symbols w.all u.all all_is first.together later.together;
+        clause = omega (arith, later_clause, clause_is, sizes);
+        all = omega (arith, later_all, all_is, sizes);
+      }
+    where
+      both : (most before middle : ℕ) → middle ≡ before + total size (terms_at ms) → AreUpTo most (up_to_terms before (terms_at ms)) → AreUpTo most (up_to_terms middle (terms_at ns)) → AreUpTo most (up_to_terms before (terms_at (ms ++ ns)))
+      both most before middle is one other =
+          let here = up_to_terms before (terms_at ms) in
+          let behind = up_to_terms (before + total size (terms_at ms)) (terms_at ns) in
+          subst (AreUpTo most) (sym (ap (up_to_terms before) (map-append (term_at table) ms ns) ∙ up_to_append before (terms_at ms) (terms_at ns)))
+          (all_append (λ n. n ≤ most) here behind one (subst (λ n. AreUpTo most (up_to_terms n (terms_at ns))) is other))
+
+  -- what was read of both rows, whatever their numbers
+  pub record SidesThere (w : Walked) (bytes : List ℕ) (left right : Behind (List Term)) (rest : List ℕ) : Type 0 where
+    pub numbered : SidesOf ℕ
+    pub left_is : left.value ≡ terms_at numbered.left
+    pub right_is : right.value ≡ terms_at numbered.right
+    pub left_short : AllByRecursion IsShort numbered.left
+    pub right_short : AllByRecursion IsShort numbered.right
+    pub left_some : 1 ≤ length numbered.left
+    pub right_some : 1 ≤ length numbered.right
+    pub text : bytes ≡ sides_over number_text P numbered rest
+    pub through : Through table true (with_signs 1 w) (numbered.left ++ numbered.right) right.walked
+
+  pub sides_were_read : (w : Walked) (bytes : List ℕ) (at : ℕ) (u : Unit {0}) (p : ℕ) (k : List ℕ) (left : Behind (List Term)) (q : ℕ) (j : List ℕ) (right : Behind (List Term)) (z : ℕ) (r : List ℕ)
+      → read_fixed (codes "diff(") bytes at ≡ Found u p k → read_sides P table (codes ";") (with_signs 1 w) k p ≡ Found left q j → read_sides P table (codes ")") left.walked j q ≡ Found right z r → SidesThere w bytes left right r
+  sides_were_read w bytes at u p k left q j right z r begin first second =
+      let opens = fixed_there (codes "diff(") bytes at u p k begin in
+      let lefts = row_there true 59 (suc (length k)) [] (with_signs 1 w) k p left q j first in
+      let rights = row_there true 41 (suc (length j)) [] left.walked j q right z r second in
+      let ms = lefts.first ∷ lefts.others in
+      let ns = rights.first ∷ rights.others in
+      record {
+        numbered = record { left = ms; right = ns };
+        left_is = lefts.value;
+        right_is = rights.value;
+        left_short = lefts.short;
+        right_short = rights.short;
+        left_some = omega arith;
+        right_some = omega arith;
+        text = opens ∙ ap (λ s. codes "diff(" ++ s) (lefts.text ∙ ap (λ s. terms_text number_text P ms (59 ∷ s)) rights.text);
+        through = through_append (with_signs 1 w) left.walked right.walked ms ns lefts.through rights.through;
+      }
+
+  pub diff_there : (w : Walked) (bytes : List ℕ) (at : ℕ) (x : Behind (SidesOf Term)) (p : ℕ) (r : List ℕ) → read_diff P table w bytes at ≡ Found x p r → DiffThere w bytes x r
+  diff_there w bytes at x p r e =
+      let begin = parts (read_fixed (codes "diff(") bytes at) _ x p r e in
+      let left = parts (read_sides P table (codes ";") (with_signs 1 w) begin.rest begin.place) _ x p r begin.later in
+      let right = parts (read_sides P table (codes ")") left.value.walked left.rest left.place) _ x p r left.later in
+      let there = sides_were_read w bytes at begin.value begin.place begin.rest left.value left.place left.rest right.value right.place right.rest begin.first left.first right.first in
+      let made : SidesOf Term = record { left = left.value.value; right = right.value.value } in
+      let cut = parts (paired at left.value.value right.value.value right.place right.rest) (λ s q k. Found (with s right.value.walked) q k) x p r right.later in
+      let numbered = there.numbered in
+      let ms = numbered.left in
+      let ns = numbered.right in
+      chosen (length left.value.value == length right.value.value) (Found made right.place right.rest) (Faulty at Arity) cut.value cut.place cut.rest (DiffThere w bytes x r) cut.first
+      (λ fits end.
+      let first : made ≡ cut.value = cc in
+      let place : right.rest ≡ cut.rest = cc in
+      let last : with cut.value right.value.walked ≡ x = cc in
+      let rests : cut.rest ≡ r = cc in
+      let whole : with made right.value.walked ≡ x = ap (λ s. with s right.value.walked) first ∙ last in
+      let many : length ms ≡ length ns = sym (length-map ms (term_at table)) ∙ (sym (ap length there.left_is) ∙ (equal_byte (length left.value.value) (length right.value.value) fits ∙ (ap length there.right_is ∙ length-map ns (term_at table)))) in
+      let left_is = there.left_is in
+      let right_is = there.right_is in
+      let some = there.left_some in
+      subst (λ z. DiffThere w bytes z r) whole record {
+        numbered = numbered;
+        meant = λ i. record { left = sym left_is i; right = sym right_is i };
+        is = record { left = there.left_short; right = there.right_short; paired = many; some = omega (arith, some) };
+        text = there.text ∙ ap (sides_over number_text P numbered) (place ∙ rests);
+        gone = gone_part table (diff_part numbered) w right.value.walked there.through;
+      })
+      (λ misfits never. absurd (cc))

@@ -1,5 +1,6 @@
 mod Spelled
 mod ReportsOne
+pub mod Parts
 pub mod FactsThere
 mod ClausesThere
 pub mod NodesThere

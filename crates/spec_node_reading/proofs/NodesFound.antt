@@ -18,21 +18,24 @@ use Rattle.spec_clauses.specs.Fact.{same_term}
 use Rattle.spec_certificate_text.specs.Spelled.{IsWord, Stops}
 use Rattle.spec_certificate_text.specs.Words.{symbol_word, word_at}
 use Rattle.spec_certificate_text.specs.Text.{numbers_text}
-use Rattle.spec_certificate_text.specs.OfProtocol.{IsShort, IsSymbolOf, HasNames}
+use Rattle.spec_certificate_text.specs.OfProtocol.{IsShort, IsSymbolOf, HasNames, most_side_variables}
 use Rattle.spec_certificate_text.proofs.Names.{constructor_word, free_word, symbol_word_is_word, restriction_word_is_word, variable_is_word, variable_is_variable}
 use Rattle.spec_certificate_text.specs.Names.{Named, symbol_called, name_called}
 use Rattle.spec_certificate_text.proofs.Called.{free_called, constructor_called, point_called}
 use Rattle.spec_certificate_text.specs.Terms.{Arity, Count, NodeOrder, NodeLarge}
 use Rattle.spec_certificate_text.specs.Outcomes.{Outcome, Found, Faulty, next, front, ended, read_fixed, read_number}
 use Rattle.spec_certificate_text.proofs.Parts.{Finds, joined, when_true, when_false, other_byte, same_byte, fixed_found, run_stops, number_found}
+use Rattle.spec_certificate_text.specs.Sides.{first_bound, variable_word}
 use Rattle.spec_node_tables.specs.Nodes.{TableNode, Variable, Over, term_of, terms_from}
 use Rattle.spec_node_tables.specs.Text.{node_numbers, node_text, node_lines}
 use Rattle.spec_node_tables.specs.OfProtocol.{IsNodeOf}
 use Rattle.spec_node_tables.specs.Large.{is_over}
 use Rattle.spec_node_tables.specs.Order.{IsNumberOf, StandInOrder}
+use Rattle.spec_node_faults.proofs.Meant as meant
+use Rattle.spec_node_faults.proofs.Meant.{VariableWord, word_of_variable}
 use Rattle.spec_node_reading.specs.Nodes.{own_number}
 use Rattle.spec_node_reading.specs.Loops.{lines_through}
-use Rattle.spec_node_reading.specs.ReadNodes.{HeadRead, IsVariable, Names, as_variable, as_symbol, word_head, read_head, lower_number, spaced_number, read_spaced, NodeRead, read_body, takes, node_read, judged_node, read_node_line}
+use Rattle.spec_node_reading.specs.ReadNodes.{HeadRead, IsVariable, Names, as_variable, read_bound, as_symbol, word_head, read_head, lower_number, spaced_number, read_spaced, NodeRead, read_body, takes, node_read, judged_node, read_node_line}
 
 -- Numbers.
 
@@ -120,8 +123,9 @@ word_begins : (word k : List ℕ) → IsWord word → begins_word (front (word +
 word_begins [] k is = absurd (let never : false ≡ true = is.begins in cc)
 word_begins (b ∷ word) k is = is.begins
 
-word_no_point : (word k : List ℕ) → IsWord word → (front (word ++ k) == 64) ≡ false
-word_no_point word k is = other_byte (front (word ++ k)) 64 (λ same. let never : false ≡ true = ap begins_word (sym same) ∙ word_begins word k is in cc)
+-- no byte stands before a word's that begins none
+word_front : (word k : List ℕ) (b : ℕ) → IsWord word → begins_word b ≡ false → (front (word ++ k) == b) ≡ false
+word_front word k b is none = other_byte (front (word ++ k)) b (λ same. let never : false ≡ true = sym none ∙ (ap begins_word (sym same) ∙ word_begins word k is) in cc)
 
 module _ (P : Protocol) where
   -- a word that does not go on, and what is found behind it
@@ -169,8 +173,14 @@ module _ (P : Protocol) where
       digits p place [] short = number_found p 10 rest place short refl
       digits p place (n ∷ ns) short = number_found p 32 (decimal n ++ numbers_text ns (10 ∷ rest)) place short refl
 
-  head_found : HasNames P → (node : TableNode) (rest : List ℕ) (at : ℕ) → IsNodeOf P node → (is_attacker : node ≡ Over Attacker (node_numbers node) → ⊥) → Finds (read_head P (node_text P node (10 ∷ rest)) at) (head_for node) (behind_head (node_numbers node) rest)
-  head_found names (Variable x) rest at is other = variable_found x rest at is
+  -- a symbol but the attacker's over numbers
+  abbrev IsPlainNode : TableNode → Type 0
+  IsPlainNode (Variable x) = ⊥
+  IsPlainNode (Over Attacker ns) = ⊥
+  IsPlainNode (Over f ns) = Unit {0}
+
+  head_found : HasNames P → (node : TableNode) (rest : List ℕ) (at : ℕ) → IsNodeOf P node → IsPlainNode node → Finds (read_head P (node_text P node (10 ∷ rest)) at) (head_for node) (behind_head (node_numbers node) rest)
+  head_found names (Variable x) rest at is other = absurd other
   head_found names (Over (Ctor f) ns) rest at is other = let word = constructor_word P false f (length ns) names is.0 in symbol_found (symbol_word P (Ctor f)) record { symbol = Ctor f; arity = length ns } ns rest at (symbol_word_is_word (symbol_word P (Ctor f)) word) word.1 (constructor_called P names false f (length ns) is.0)
   head_found names (Over (Data f) ns) rest at is other = let word = constructor_word P true f (length ns) names is.0 in symbol_found (symbol_word P (Data f)) record { symbol = Data f; arity = length ns } ns rest at (symbol_word_is_word (symbol_word P (Data f)) word) word.1 (constructor_called P names true f (length ns) is.0)
   head_found names (Over (Tuple m) ns) rest at is other =
@@ -182,7 +192,7 @@ module _ (P : Protocol) where
       let none : length ns ≡ 0 = is.0.1 in
       symbol_found (symbol_word P (Free a)) record { symbol = Free a; arity = length ns } ns rest at (symbol_word_is_word (symbol_word P (Free a)) word) word.1 (free_called P names a is.0.0 ∙ ap (λ n. Some record { symbol = Free a; arity = n }) (sym none))
   head_found names (Over (Point p) ns) rest at is other = point_found names p ns rest at is.0
-  head_found names (Over Attacker ns) rest at is other = absurd (other refl)
+  head_found names (Over Attacker ns) rest at is other = absurd other
 
   -- Whole nodes.
 
@@ -193,25 +203,58 @@ module _ (P : Protocol) where
   short_numbers (Variable x) is = tt
   short_numbers (Over f ns) is = is.1
 
-  head_no_at : HasNames P → (node : TableNode) (k : List ℕ) → IsNodeOf P node → (node ≡ Over Attacker (node_numbers node) → ⊥) → (front (node_text P node k) == 64) ≡ false
-  head_no_at names (Variable x) k is other = refl
-  head_no_at names (Over (Ctor f) ns) k is other = word_no_point (symbol_word P (Ctor f)) (numbers_text ns k) (symbol_word_is_word (symbol_word P (Ctor f)) (constructor_word P false f (length ns) names is.0))
-  head_no_at names (Over (Data f) ns) k is other = word_no_point (symbol_word P (Data f)) (numbers_text ns k) (symbol_word_is_word (symbol_word P (Data f)) (constructor_word P true f (length ns) names is.0))
-  head_no_at names (Over (Tuple m) ns) k is other = refl
-  head_no_at names (Over (Free a) ns) k is other = word_no_point (symbol_word P (Free a)) (numbers_text ns k) (symbol_word_is_word (symbol_word P (Free a)) (free_word P a names is.0.0))
-  head_no_at names (Over (Point p) ns) k is other = word_no_point (word_at P p) (64 ∷ (decimal p ++ numbers_text ns k)) (restriction_word_is_word P p (length ns) names is.0.0)
-  head_no_at names (Over Attacker ns) k is other = absurd (other refl)
+  -- no byte stands before its head that begins no word, but `(`
+  head_front : HasNames P → (node : TableNode) (k : List ℕ) (b : ℕ) → begins_word b ≡ false → (40 == b) ≡ false → IsNodeOf P node → IsPlainNode node → (front (node_text P node k) == b) ≡ false
+  head_front names (Variable x) k b none other is plain = absurd plain
+  head_front names (Over (Ctor f) ns) k b none other is plain = word_front (symbol_word P (Ctor f)) (numbers_text ns k) b (symbol_word_is_word (symbol_word P (Ctor f)) (constructor_word P false f (length ns) names is.0)) none
+  head_front names (Over (Data f) ns) k b none other is plain = word_front (symbol_word P (Data f)) (numbers_text ns k) b (symbol_word_is_word (symbol_word P (Data f)) (constructor_word P true f (length ns) names is.0)) none
+  head_front names (Over (Tuple m) ns) k b none other is plain = other
+  head_front names (Over (Free a) ns) k b none other is plain = word_front (symbol_word P (Free a)) (numbers_text ns k) b (symbol_word_is_word (symbol_word P (Free a)) (free_word P a names is.0.0)) none
+  head_front names (Over (Point p) ns) k b none other is plain = word_front (word_at P p) (64 ∷ (decimal p ++ numbers_text ns k)) b (restriction_word_is_word P p (length ns) names is.0.0) none
+  head_front names (Over Attacker ns) k b none other is plain = absurd plain
 
-  -- a node that is no name of the attacker's
-  plain_found : HasNames P → (own : ℕ) (node : TableNode) (rest : List ℕ) (at : ℕ) → IsNodeOf P node → (node ≡ Over Attacker (node_numbers node) → ⊥) → AreLower own (node_numbers node) → Finds (read_body P own (node_text P node (10 ∷ rest)) at) (as_read (head_for node) (node_numbers node)) (10 ∷ rest)
-  plain_found names own node rest at is other lower =
+  abbrev read_attacker : ℕ → List ℕ → ℕ → Outcome NodeRead
+  read_attacker own bytes at = next (read_fixed (codes "@ ") bytes at) (λ _ p r. next (lower_number own r p) (λ n p r. Found (as_read (Names record { symbol = Attacker; arity = 1 }) (n ∷ [])) p r))
+
+  abbrev read_bound_one : List ℕ → ℕ → Outcome NodeRead
+  read_bound_one bytes at = next (read_bound (drop 1 bytes) (at + 1)) (λ head p r. Found (as_read head []) p r)
+
+  abbrev read_headed : ℕ → List ℕ → ℕ → Outcome NodeRead
+  read_headed own bytes at = next (read_head P bytes at) (λ head p r. next (read_spaced own r p) (λ ns p r. Found (as_read head ns) p r))
+
+  plain_found : HasNames P → (own : ℕ) (node : TableNode) (rest : List ℕ) (at : ℕ) → IsNodeOf P node → IsPlainNode node → AreLower own (node_numbers node) → Finds (read_body P own (node_text P node (10 ∷ rest)) at) (as_read (head_for node) (node_numbers node)) (10 ∷ rest)
+  plain_found names own node rest at is plain lower =
       let ns = node_numbers node in
       let bytes = node_text P node (10 ∷ rest) in
-      let attacker : HeadRead = Names record { symbol = Attacker; arity = 1 } in
-      when_false (front bytes == 64) (next (read_fixed (codes "@ ") bytes at) (λ _ p r. next (lower_number own r p) (λ n p r. Found (as_read attacker (n ∷ [])) p r)))
-      (next (read_head P bytes at) (λ head p r. next (read_spaced own r p) (λ ns p r. Found (as_read head ns) p r))) (as_read (head_for node) ns) (10 ∷ rest) (head_no_at names node (10 ∷ rest) is other)
-      (joined (read_head P bytes at) (λ head p r. next (read_spaced own r p) (λ ns p r. Found (as_read head ns) p r)) (head_for node) (behind_head ns rest) (as_read (head_for node) ns) (10 ∷ rest) (head_found names node rest at is other)
-      (λ p. joined (read_spaced own (behind_head ns rest) p) (λ ns p r. Found (as_read (head_for node) ns) p r) ns (10 ∷ rest) (as_read (head_for node) ns) (10 ∷ rest) (read_spaced-found own ns rest p (short_numbers node is) lower) (λ q. record { place = q; is = refl })))
+      let end = as_read (head_for node) ns in
+      when_false (front bytes == 64) (read_attacker own bytes at) (if front bytes == 63 then read_bound_one bytes at else read_headed own bytes at) end (10 ∷ rest) (head_front names node (10 ∷ rest) 64 refl refl is plain)
+      (when_false (front bytes == 63) (read_bound_one bytes at) (read_headed own bytes at) end (10 ∷ rest) (head_front names node (10 ∷ rest) 63 refl refl is plain)
+      (joined (read_head P bytes at) (λ head p r. next (read_spaced own r p) (λ ns p r. Found (as_read head ns) p r)) (head_for node) (behind_head ns rest) end (10 ∷ rest) (head_found names node rest at is plain)
+      (λ p. joined (read_spaced own (behind_head ns rest) p) (λ ns p r. Found (as_read (head_for node) ns) p r) ns (10 ∷ rest) end (10 ∷ rest) (read_spaced-found own ns rest p (short_numbers node is) lower) (λ q. record { place = q; is = refl }))))
+
+  -- a variable, which may be a bound one
+  leaf_found : (own x : ℕ) (rest : List ℕ) (at : ℕ) → x < most_side_variables → Finds (read_body P own (node_text P (Variable x) (10 ∷ rest)) at) (as_read (IsVariable x) []) (10 ∷ rest)
+  leaf_found own x rest at below = by (word_of_variable x below)
+    where
+      own_found : IsShort x → Finds (read_body P own ((118 ∷ decimal x) ++ (10 ∷ rest)) at) (as_read (IsVariable x) []) (10 ∷ rest)
+      own_found short =
+          let bytes = (118 ∷ decimal x) ++ (10 ∷ rest) in
+          let end = as_read (IsVariable x) [] in
+          joined (read_head P bytes at) (λ head p r. next (read_spaced own r p) (λ ns p r. Found (as_read head ns) p r)) (IsVariable x) (10 ∷ rest) end (10 ∷ rest) (variable_found x rest at short)
+          (λ p. joined (read_spaced own (10 ∷ rest) p) (λ ns p r. Found (as_read (IsVariable x) ns) p r) [] (10 ∷ rest) end (10 ∷ rest) (read_spaced-found own [] rest p tt tt) (λ q. record { place = q; is = refl }))
+
+      bound_found : (i : ℕ) → IsShort i → Finds (read_body P own ((63 ∷ decimal i) ++ (10 ∷ rest)) at) (as_read (IsVariable (first_bound + i)) []) (10 ∷ rest)
+      bound_found i short =
+          let inner = decimal i ++ (10 ∷ rest) in
+          let head : HeadRead = IsVariable (first_bound + i) in
+          joined (read_bound inner (at + 1)) (λ head p r. Found (as_read head []) p r) head (10 ∷ rest) (as_read head []) (10 ∷ rest)
+          (joined (read_number inner (at + 1)) (λ i p r. Found (IsVariable (first_bound + i)) p r) i (10 ∷ rest) head (10 ∷ rest) (number_found i 10 rest (at + 1) short refl) (λ p. record { place = p; is = refl })) (λ p. record { place = p; is = refl })
+
+      by : VariableWord x → Finds (read_body P own (variable_word x ++ (10 ∷ rest)) at) (as_read (IsVariable x) []) (10 ∷ rest)
+      by (meant.own short word) = subst (λ w. Finds (read_body P own (w ++ (10 ∷ rest)) at) (as_read (IsVariable x) []) (10 ∷ rest)) (sym word) (own_found short)
+      by (meant.bound i short same word) =
+          subst (λ w. Finds (read_body P own (w ++ (10 ∷ rest)) at) (as_read (IsVariable x) []) (10 ∷ rest)) (sym word)
+          (subst (λ y. Finds (read_body P own ((63 ∷ decimal i) ++ (10 ∷ rest)) at) (as_read (IsVariable y) []) (10 ∷ rest)) same (bound_found i short))
 
   attacker_found : (own : ℕ) (ns rest : List ℕ) (at : ℕ) → length ns ≡ 1 → AllByRecursion IsShort ns → AreLower own ns → Finds (read_body P own (64 ∷ numbers_text ns (10 ∷ rest)) at) (as_read (Names record { symbol = Attacker; arity = 1 }) ns) (10 ∷ rest)
   attacker_found own [] rest at one short lower = absurd (omega (arith, one))
@@ -223,12 +266,12 @@ module _ (P : Protocol) where
   attacker_found own (m ∷ n ∷ ns) rest at one short lower = absurd (omega (arith, one))
 
   body_found : HasNames P → (own : ℕ) (node : TableNode) (rest : List ℕ) (at : ℕ) → IsNodeOf P node → AreLower own (node_numbers node) → Finds (read_body P own (node_text P node (10 ∷ rest)) at) (as_read (head_for node) (node_numbers node)) (10 ∷ rest)
-  body_found names own (Variable x) rest at is lower = plain_found names own (Variable x) rest at is (λ never. absurd (cc)) lower
-  body_found names own (Over (Ctor f) ns) rest at is lower = plain_found names own (Over (Ctor f) ns) rest at is (λ never. absurd (cc)) lower
-  body_found names own (Over (Data f) ns) rest at is lower = plain_found names own (Over (Data f) ns) rest at is (λ never. absurd (cc)) lower
-  body_found names own (Over (Tuple m) ns) rest at is lower = plain_found names own (Over (Tuple m) ns) rest at is (λ never. absurd (cc)) lower
-  body_found names own (Over (Free a) ns) rest at is lower = plain_found names own (Over (Free a) ns) rest at is (λ never. absurd (cc)) lower
-  body_found names own (Over (Point p) ns) rest at is lower = plain_found names own (Over (Point p) ns) rest at is (λ never. absurd (cc)) lower
+  body_found names own (Variable x) rest at is lower = leaf_found own x rest at is
+  body_found names own (Over (Ctor f) ns) rest at is lower = plain_found names own (Over (Ctor f) ns) rest at is tt lower
+  body_found names own (Over (Data f) ns) rest at is lower = plain_found names own (Over (Data f) ns) rest at is tt lower
+  body_found names own (Over (Tuple m) ns) rest at is lower = plain_found names own (Over (Tuple m) ns) rest at is tt lower
+  body_found names own (Over (Free a) ns) rest at is lower = plain_found names own (Over (Free a) ns) rest at is tt lower
+  body_found names own (Over (Point p) ns) rest at is lower = plain_found names own (Over (Point p) ns) rest at is tt lower
   body_found names own (Over Attacker ns) rest at is lower = attacker_found own ns rest at is.0 is.1 lower
 
   takes_so : (node : TableNode) → IsNodeOf P node → takes (head_for node) (length (node_numbers node)) ≡ true

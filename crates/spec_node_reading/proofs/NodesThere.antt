@@ -1,5 +1,5 @@
 -- Nodes that were read are what the bytes begin with, and stand in the order of a table.
-use Rattle.std.proofs.Common.{◌≡◌, ℕ, zero, suc, ◌+◌, ◌<◌, ◌≤◌, ◌==◌, ◌&&◌, ◌||◌, not, nat_le, if◌then◌else◌, Bool, true, false, List, [], ◌∷◌, ◌++◌, length, take, drop, Option, Some, None, codes, refl, sym, ◌∙◌, ap, subst, arith, append_assoc}
+use Rattle.std.proofs.Common.{◌≡◌, ℕ, zero, suc, ◌+◌, ◌-◌, ◌<◌, ◌≤◌, ◌==◌, ◌&&◌, ◌||◌, not, nat_le, if◌then◌else◌, Bool, true, false, List, [], ◌∷◌, ◌++◌, length, take, drop, Option, Some, None, codes, refl, sym, ◌∙◌, ap, subst, arith, append_assoc}
 use Rattle.std.specs.Fmt.{decimal}
 use Rattle.std.specs.List.{AllByRecursion, list_any, prefix_len}
 use Rattle.std.proofs.lemmas.List.{take-append-drop}
@@ -14,6 +14,7 @@ use Rattle.spec_run_text.proofs.Numbers.{numeral_some}
 use Rattle.spec_terms.specs.Term.{Sym, Ctor, Data, Tuple, Free, Point, Attacker, Term}
 use Rattle.spec_clauses.specs.Fact.{same_term}
 use Rattle.spec_clauses.proofs.Lists.{all_append}
+use Rattle.spec_certificate_text.specs.Sides.{first_bound, variable_word}
 use Rattle.spec_certificate_text.specs.Words.{symbol_word, word_at}
 use Rattle.spec_certificate_text.specs.Text.{numbers_text}
 use Rattle.spec_certificate_text.specs.OfProtocol.{IsShort, IsSymbolOf, IsRestriction}
@@ -23,6 +24,7 @@ use Rattle.spec_certificate_text.specs.Steps.{with_parts}
 use Rattle.spec_certificate_text.specs.Outcomes.{Outcome, Found, Faulty, next, front, ended, read_fixed, read_number}
 use Rattle.spec_certificate_text.proofs.Parts.{parts, chosen, equal_byte, front_is, fixed_there, ended_found, number_there}
 use Rattle.spec_certificate_text.proofs.Named.{IsWorded, symbol_called_is, name_called_is}
+use Rattle.spec_certificate_text.proofs.Sides.{own_word, bound_word}
 use Rattle.spec_certificate_text.proofs.SoundWords.{variable_rest}
 use Rattle.spec_node_tables.specs.Nodes.{TableNode, term_of, terms_from}
 use Rattle.spec_node_tables.specs.Text.{symbol_head, head_text, node_numbers, node_text, node_lines}
@@ -31,7 +33,7 @@ use Rattle.spec_node_tables.specs.Large.{is_over}
 use Rattle.spec_node_tables.specs.Order.{IsNumberOf, StandInOrder}
 use Rattle.spec_node_reading.specs.Nodes.{own_number}
 use Rattle.spec_node_reading.specs.Loops.{lines_through}
-use Rattle.spec_node_reading.specs.ReadNodes.{HeadRead, IsVariable, Names, as_variable, as_symbol, word_head, read_head, lower_number, spaced_number, read_spaced, NodeRead, read_body, may_take, takes, node_read, judged_node, read_node_line}
+use Rattle.spec_node_reading.specs.ReadNodes.{HeadRead, IsVariable, Names, as_variable, read_bound, as_symbol, word_head, read_head, lower_number, spaced_number, read_spaced, NodeRead, read_body, may_take, takes, node_read, judged_node, read_node_line}
 
 -- What a head is that was read: `word` is what stands before its numbers.
 
@@ -258,7 +260,9 @@ module _ (P : Protocol) (before : List Term) where
 
   body_of : (head : HeadRead) (text : List ℕ → List ℕ) (ns bytes rest : List ℕ) → HeadIs P head text → bytes ≡ text (numbers_text ns rest) → AllByRecursion IsShort ns → ((x : ℕ) → head ≡ IsVariable x → ns ≡ []) → takes head (length ns) ≡ true
       → IsNodeOf P (node_read head ns) × (bytes ≡ node_text P (node_read head ns) rest)
-  body_of (IsVariable x) text ns bytes rest is there short none fits = (is.0, there ∙ (is.1 (numbers_text ns rest) ∙ ap (λ ms. 118 ∷ (decimal x ++ numbers_text ms rest)) (none x refl)))
+  body_of (IsVariable x) text ns bytes rest is there short none fits =
+      let own = is.0 in
+      (omega (arith, own), there ∙ (is.1 (numbers_text ns rest) ∙ (ap (λ ms. 118 ∷ (decimal x ++ numbers_text ms rest)) (none x refl) ∙ ap (λ w. w ++ rest) (sym (own_word x own)))))
   body_of (Names named) text ns bytes rest is there short none fits =
       let so = is (length ns) fits in
       ((so.1, short), there ∙ sym (so.0 (numbers_text ns rest)))
@@ -268,8 +272,9 @@ module _ (P : Protocol) (before : List Term) where
       let attacker : HeadRead = Names record { symbol = Attacker; arity = 1 } in
       let own = own_number before in
       let first : Outcome NodeRead = next (read_fixed (codes "@ ") bytes at) (λ _ q k. next (lower_number own k q) (λ n q k. Found (as_read attacker (n ∷ [])) q k)) in
+      let bound : Outcome NodeRead = next (read_bound (drop 1 bytes) (at + 1)) (λ head q k. Found (as_read head []) q k) in
       let second : Outcome NodeRead = next (read_head P bytes at) (λ head q k. next (read_spaced own k q) (λ ns q k. Found (as_read head ns) q k)) in
-      chosen (front bytes == 64) first second x p r (BodyThere bytes x r) e
+      chosen (front bytes == 64) first (if front bytes == 63 then bound else second) x p r (BodyThere bytes x r) e
       (λ is told.
       let cut = parts (read_fixed (codes "@ ") bytes at) (λ _ q k. next (lower_number own k q) (λ n q k. Found (as_read attacker (n ∷ [])) q k)) x p r told in
       let opens = fixed_there (codes "@ ") bytes at cut.value cut.place cut.rest cut.first in
@@ -282,7 +287,28 @@ module _ (P : Protocol) (before : List Term) where
         below = ((one.some, one.below), tt);
         fits = λ fits. body_of attacker (λ s. 64 ∷ s) (end.value ∷ []) bytes r (attacker_is P) (opens ∙ ap (λ s. 64 ∷ 32 ∷ s) (one.text ∙ ap (λ s. decimal end.value ++ s) rests)) (one.short, tt) (λ y never. absurd (cc)) fits;
       })
-      (λ isnt told.
+      (λ isnt other. chosen (front bytes == 63) bound second x p r (BodyThere bytes x r) other
+      (λ is told.
+      let cut = parts (read_bound (drop 1 bytes) (at + 1)) (λ head q k. Found (as_read head []) q k) x p r told in
+      let number = parts (read_number (drop 1 bytes) (at + 1)) (λ i q k. Found (IsVariable (first_bound + i)) q k) cut.value cut.place cut.rest cut.first in
+      let there = number_there (drop 1 bytes) (at + 1) number.value number.place number.rest number.first in
+      let i = number.value in
+      let y = first_bound + i in
+      let short = there.is in
+      let opens : bytes ≡ 63 ∷ drop 1 bytes = front_is bytes 63 (equal_byte (front bytes) 63 is) (λ never. absurd (cc)) in
+      let head : IsVariable y ≡ cut.value = cc in
+      let made : as_read cut.value [] ≡ x = cc in
+      let whole : as_read (IsVariable y) [] ≡ x = ap (λ h. as_read h []) head ∙ made in
+      let ends : number.rest ≡ cut.rest = cc in
+      let rests : cut.rest ≡ r = cc in
+      let back : y - first_bound ≡ i = omega arith in
+      let word : variable_word y ≡ 63 ∷ decimal i = bound_word y (omega arith) ∙ ap (λ n. 63 ∷ decimal n) back in
+      subst (λ z. BodyThere bytes z r) whole record {
+        short = tt;
+        below = tt;
+        fits = λ fits. (omega (arith, short), opens ∙ (ap (λ s. 63 ∷ s) (there.text ∙ ap (λ s. decimal i ++ s) (ends ∙ rests)) ∙ ap (λ w. w ++ r) (sym word)));
+      })
+      (λ no_bound told.
       let cut = parts (read_head P bytes at) (λ head q k. next (read_spaced own k q) (λ ns q k. Found (as_read head ns) q k)) x p r told in
       let head = head_there P bytes at cut.value cut.place cut.rest cut.first in
       let numbers = parts (read_spaced own cut.rest cut.place) (λ ns q k. Found (as_read cut.value ns) q k) x p r cut.later in
@@ -300,7 +326,7 @@ module _ (P : Protocol) (before : List Term) where
         fits = λ fits. body_of cut.value head.text numbers.value bytes r head.is
             (head.there ∙ ap head.text (there.text ∙ (ap (numbers_text there.others) (lasts ∙ rests) ∙ ap (λ ms. numbers_text ms r) ns)))
             (subst (AllByRecursion IsShort) ns there.short) (λ y same. sym ns ∙ there.none (head.no_numbers y same)) fits;
-      })
+      }))
 
   pub none_same : (t : Term) (us : List Term) → list_any (same_term t) us ≡ false → AllByRecursion (λ u. same_term t u ≡ false) us
   none_same t [] e = tt

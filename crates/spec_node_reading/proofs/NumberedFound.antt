@@ -8,11 +8,12 @@ use Rattle.spec_trees.specs.Tree.{size}
 use Rattle.spec_calculus.specs.Bounds.{most_symbols, most_clauses}
 use Rattle.spec_calculus.specs.Syntax.{Protocol}
 use Rattle.spec_terms.specs.Term.{Term}
-use Rattle.spec_clauses.specs.Fact.{Clause, terms_of, map_clause}
+use Rattle.spec_clauses.specs.Fact.{Clause}
 use Rattle.spec_clauses.specs.Inclusion.{Has}
 use Rattle.spec_clauses.proofs.Lists.{all_weaker, all_first, all_second, all-flat_map}
 use Rattle.spec_certificates.specs.Certificate.{Certificate}
 use Rattle.spec_certificate_text.specs.Loose.{Head, Applied, Tupled, Made, Attackers}
+use Rattle.spec_certificate_text.specs.Sides.{SpelledClause, spelled_clause, map_spelled}
 use Rattle.spec_certificate_text.specs.Text.{numbers_text, row_lines}
 use Rattle.spec_certificate_text.specs.OfProtocol.{IsShort, HasNames}
 use Rattle.spec_certificate_text.specs.Terms.{NodeOrder}
@@ -20,18 +21,20 @@ use Rattle.spec_certificate_text.specs.Outcomes.{Faulty, next, front, read_fixed
 use Rattle.spec_certificate_text.specs.Certificates.{certificate_end}
 use Rattle.spec_certificate_text.proofs.Parts.{Finds, joined, when_false, fixed_found}
 use Rattle.spec_certificate_text.proofs.CertificatesRead.{read_certificate-found}
-use Rattle.spec_node_tables.specs.Table.{facts_in_order, terms_in_order, table, number_in}
+use Rattle.spec_node_tables.specs.Table.{spelled_terms, terms_in_order, table, number_in}
 use Rattle.spec_node_tables.specs.Nodes.{TableNode, node_of, term_at, term_of, terms_from}
 use Rattle.spec_node_tables.specs.Text.{node_head, head_text, node_numbers, node_lines, number_text, clause_lines_over, text_with_nodes}
-use Rattle.spec_node_tables.specs.Large.{most_certificate_symbols, up_to_facts, up_to_clauses, AreUpTo}
+use Rattle.spec_node_tables.specs.Large.{most_certificate_symbols, up_to_clause, up_to_clauses, AreUpTo}
 use Rattle.spec_node_tables.proofs.Back.{mapped_back, table_back, terms_stand, certificate_back}
-use Rattle.spec_node_tables.proofs.Certificates.{with_nodes_is}
+use Rattle.spec_node_tables.proofs.Certificates.{with_nodes_is, short_diffs}
 use Rattle.spec_node_tables.proofs.Ordered.{with_nodes_ordered}
 use Rattle.spec_node_tables.proofs.Sizes.{few_nodes}
 use Rattle.spec_node_faults.specs.Clauses.{is_front, completed}
 use Rattle.spec_node_faults.specs.Grammar.{StandsRight, IsNumberable}
-use Rattle.spec_node_faults.proofs.Items.{in_order}
-use Rattle.spec_node_faults.proofs.Orders.{InOrder, front_self, term_there, numbers_in_order, values_mapped}
+use Rattle.spec_node_faults.proofs.Items.{HasOwnNumbers}
+use Rattle.spec_node_faults.proofs.Orders.{InOrder, front_self, term_there, numbers_in_order}
+use Rattle.spec_node_faults.proofs.Spelled.{values_mapped}
+use Rattle.spec_node_faults.proofs.Own.{clauses_own}
 use Rattle.spec_node_reading.specs.Walked.{nothing_yet}
 use Rattle.spec_node_reading.specs.Loops.{with, lines_through}
 use Rattle.spec_node_reading.specs.ReadNodes.{read_nodes}
@@ -39,6 +42,7 @@ use Rattle.spec_node_reading.specs.ReadClauses.{read_clause_line}
 use Rattle.spec_node_reading.specs.Readable.{SpellsCertificate}
 use Rattle.spec_node_reading.specs.Reading.{ends_clauses, behind_clauses, behind_nodes, read_numbered, read_in_both}
 use Rattle.spec_node_reading.proofs.RowsFound.{end_text, end_found}
+use Rattle.spec_node_reading.proofs.Parts.{clause_parts, numbers_of, all_numbers, clause_meant}
 use Rattle.spec_node_reading.proofs.NodesFound.{AreSmall, nodes_found}
 use Rattle.spec_node_reading.proofs.ClausesFound.{past_clauses, clauses_found}
 use Rattle.spec_node_reading.proofs.Goes.{clauses_go, clauses_seen}
@@ -75,7 +79,7 @@ nodes_long P (n ∷ ns) k =
 
 -- What follows the nodes and the clauses.
 
-no_node : (P : Protocol) (cs : List (Clause ℕ)) (rows goals : List (List ℕ)) (rest : List ℕ) → (front (clause_lines_over number_text P cs (row_lines 114 rows (row_lines 103 goals (codes "end\n" ++ rest)))) == 110) ≡ false
+no_node : (P : Protocol) (cs : List (SpelledClause ℕ)) (rows goals : List (List ℕ)) (rest : List ℕ) → (front (clause_lines_over number_text P cs (row_lines 114 rows (row_lines 103 goals (codes "end\n" ++ rest)))) == 110) ≡ false
 no_node P [] [] [] rest = refl
 no_node P [] [] (g ∷ goals) rest = refl
 no_node P [] (r ∷ rows) goals rest = refl
@@ -93,24 +97,27 @@ module _ (P : Protocol) (names : HasNames P) (c : Certificate) (may : IsNumberab
   abbrev nodes : List TableNode
   nodes = map (node_of all) all
 
-  abbrev numbered : List (Clause ℕ)
-  numbered = map (map_clause (number_in all)) c.clauses
+  abbrev numbered : List (SpelledClause ℕ)
+  numbered = map (λ d. map_spelled (number_in all) (spelled_clause d)) c.clauses
 
-  abbrev meant : Clause ℕ → Clause Term
-  meant d = map_clause (term_at all) d
+  abbrev meant : SpelledClause ℕ → Clause Term
+  meant d = clause_meant all d
 
   few_short : IsShort (length all)
   few_short = let few = few_nodes c.clauses may.fits in omega (arith, few)
 
   -- the clauses that are meant are the certificate's
   back : map meant numbered ≡ c.clauses
-  back = ap (λ ts. map (map_clause (term_at ts)) numbered) (sym (table_back c.clauses)) ∙ ap (λ d. d.clauses) (certificate_back c)
+  back = ap (λ ts. map (clause_meant ts) numbered) (sym (table_back c.clauses)) ∙ ap (λ d. d.clauses) (certificate_back c (short_diffs P c.clauses may.is.clauses))
 
   stand : AllByRecursion (Has all) (terms_in_order c.clauses)
-  stand = all-flat_map (Has all) terms_of (flat_map facts_in_order c.clauses) (all-flat_map (λ f. AllByRecursion (Has all) (terms_of f)) facts_in_order c.clauses (terms_stand c.clauses))
+  stand = all-flat_map (Has all) (λ d. spelled_terms (spelled_clause d)) c.clauses (terms_stand c.clauses)
 
-  order : InOrder all [] (flat_map terms_of (flat_map in_order numbered))
-  order = subst (InOrder all []) (sym (values_mapped (number_in all) c.clauses)) (numbers_in_order c.clauses [] (terms_in_order c.clauses) refl stand)
+  order : InOrder all [] (numbers_of (flat_map clause_parts numbered))
+  order = subst (InOrder all []) (sym (all_numbers numbered ∙ values_mapped (number_in all) c.clauses)) (numbers_in_order c.clauses [] (terms_in_order c.clauses) refl stand)
+
+  own : AllByRecursion (HasOwnNumbers all) numbered
+  own = clauses_own P c.clauses c.clauses may.is.clauses (terms_stand c.clauses)
 
   small : AreSmall P [] nodes
   small = (small_each P [] nodes (subst (AllByRecursion (λ t. size t ≤ most_symbols)) (sym (table_back c.clauses)) may.fits.nodes)).0
@@ -118,9 +125,9 @@ module _ (P : Protocol) (names : HasNames P) (c : Certificate) (may : IsNumberab
   -- behind the clauses all nodes were reached
   reached : is_front all (completed (past_clauses P names all nothing_yet numbered).seen) ≡ true
   reached =
-      let numbers = flat_map terms_of (flat_map in_order numbered) in
+      let numbers = numbers_of (flat_map clause_parts numbered) in
       let terms : map (term_at all) numbers ≡ terms_in_order c.clauses =
-      ap (map (term_at all)) (values_mapped (number_in all) c.clauses)
+      ap (map (term_at all)) (all_numbers numbered ∙ values_mapped (number_in all) c.clauses)
       ∙ mapped_back (term_at all) (number_in all) (terms_in_order c.clauses) (all_weaker (Has all) (λ t. term_at all (number_in all t) ≡ t) (λ t h. term_there c.clauses t h) (terms_in_order c.clauses) stand) in
       ap (λ us. is_front all (completed us)) (clauses_seen P names all nothing_yet numbered ∙ terms)
       ∙ (ap (is_front all) (sym (append-nil all)) ∙ front_self all [])
@@ -140,10 +147,10 @@ module _ (P : Protocol) (names : HasNames P) (c : Certificate) (may : IsNumberab
   clauses_read rest at =
       let lines = clause_lines_over number_text P numbered (end_text c rest) in
       let made = with_nodes_is P c may.is few_short in
-      let many : length numbered ≡ length c.clauses = length-map c.clauses (map_clause (number_in all)) in
+      let many : length numbered ≡ length c.clauses = length-map c.clauses (λ d. map_spelled (number_in all) (spelled_clause d)) in
       let few = may.few in
-      let go = clauses_go P names all nothing_yet numbered made.clauses (subst (AllByRecursion StandsRight) (sym back) may.stands) order
-      (subst (AllByRecursion (λ d. AreUpTo most_symbols (up_to_facts 0 (facts_in_order d)))) (sym back) may.fits.clauses) (subst (λ ds. AreUpTo most_certificate_symbols (up_to_clauses 0 ds)) (sym back) may.fits.together) in
+      let go = clauses_go P names all nothing_yet numbered made.clauses own (subst (AllByRecursion StandsRight) (sym back) may.stands) order
+      (subst (AllByRecursion (λ d. AreUpTo most_symbols (up_to_clause 0 d))) (sym back) may.fits.clauses) (subst (λ ds. AreUpTo most_certificate_symbols (up_to_clauses 0 ds)) (sym back) may.fits.together) in
       let found = clauses_found P names all most_clauses [] nothing_yet numbered (end_text c rest) at (omega (arith, many, few)) (no_clause c.rows c.goals rest) go in
       joined (lines_through 99 (read_clause_line P all) most_clauses (with [] nothing_yet) lines at) (λ cs p r. behind_clauses all cs r p) (with c.clauses (past_clauses P names all nothing_yet numbered)) (end_text c rest) c rest
       (subst (λ ds. Finds (lines_through 99 (read_clause_line P all) most_clauses (with [] nothing_yet) lines at) (with ds (past_clauses P names all nothing_yet numbered)) (end_text c rest)) back found)

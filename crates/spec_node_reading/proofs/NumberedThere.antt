@@ -7,11 +7,11 @@ use Rattle.spec_trees.specs.Tree.{size}
 use Rattle.spec_calculus.specs.Bounds.{most_symbols, most_clauses}
 use Rattle.spec_calculus.specs.Syntax.{Protocol}
 use Rattle.spec_terms.specs.Term.{Term}
-use Rattle.spec_clauses.specs.Fact.{Clause, terms_of, map_clause}
+use Rattle.spec_clauses.specs.Fact.{Clause}
 use Rattle.spec_clauses.proofs.Lists.{all_weaker}
 use Rattle.spec_certificates.specs.Certificate.{Certificate}
 use Rattle.spec_certificate_text.specs.Text.{row_lines}
-use Rattle.spec_certificate_text.specs.OfProtocol.{IsShort, IsTermOf}
+use Rattle.spec_certificate_text.specs.OfProtocol.{IsShort, IsTermBelow, most_side_variables}
 use Rattle.spec_certificate_text.specs.Terms.{NodeOrder}
 use Rattle.spec_certificate_text.specs.Outcomes.{Found, Faulty, next, front, read_fixed}
 use Rattle.spec_certificate_text.specs.Certificates.{read_rows, read_certificate, certificate_end}
@@ -19,14 +19,14 @@ use Rattle.spec_certificate_text.specs.Readable.{IsRow}
 use Rattle.spec_certificate_text.proofs.Parts.{parts, chosen, fixed_there}
 use Rattle.spec_certificate_text.proofs.CertificatesRead.{rows_there, read_certificate-there}
 use Rattle.spec_node_tables.specs.Nodes.{NodeCertificate, term_at, terms_from, without_nodes}
+use Rattle.spec_node_tables.specs.Table.{spelled_terms}
 use Rattle.spec_node_tables.specs.Text.{number_text, node_lines, clause_lines_over, numbered_text, text_with_nodes}
-use Rattle.spec_node_tables.specs.Table.{facts_in_order}
-use Rattle.spec_node_tables.specs.Large.{most_certificate_symbols, up_to_facts, up_to_clauses, AreUpTo}
+use Rattle.spec_node_tables.specs.Large.{most_certificate_symbols, up_to_clause, up_to_clauses, AreUpTo}
 use Rattle.spec_node_tables.specs.Order.{HasNumbersOf, IsInOrder}
 use Rattle.spec_node_tables.proofs.Ordered.{ordered_again}
 use Rattle.spec_node_faults.specs.Clauses.{is_front, completed}
 use Rattle.spec_node_faults.specs.Grammar.{StandsRight, IsNumberable}
-use Rattle.spec_node_faults.proofs.Items.{in_order}
+use Rattle.spec_node_faults.proofs.Items.{HasOwnNumbers}
 use Rattle.spec_node_faults.proofs.Orders.{InOrder}
 use Rattle.spec_node_faults.proofs.FoundOrders.{order_told}
 use Rattle.spec_node_faults.proofs.Converse.{all_terms_are, as_many, clauses_are, row_short}
@@ -36,6 +36,7 @@ use Rattle.spec_node_reading.specs.ReadNodes.{read_nodes}
 use Rattle.spec_node_reading.specs.ReadClauses.{read_clause_line}
 use Rattle.spec_node_reading.specs.Readable.{SpellsNumbered, SpellsCertificate}
 use Rattle.spec_node_reading.specs.Reading.{ends_clauses, behind_clauses, behind_nodes, read_numbered, read_in_both}
+use Rattle.spec_node_reading.proofs.Parts.{clause_parts, numbers_of, all_numbers, clause_meant}
 use Rattle.spec_node_reading.proofs.NodesThere.{NodesThere, nodes_there}
 use Rattle.spec_node_reading.proofs.ClausesThere.{ClausesThere, clauses_there}
 
@@ -140,10 +141,11 @@ module _ (P : Protocol) where
     ordered : IsInOrder by_numbers
     unfolding by_numbers all
     ordered =
-        let numbers = flat_map terms_of (flat_map in_order there.clauses.numbered) in
+        let numbers = flat_map spelled_terms there.clauses.numbered in
+        let same : numbers_of (flat_map clause_parts there.clauses.numbered) ≡ numbers = all_numbers there.clauses.numbered in
         let front : is_front all (completed (map (term_at all) numbers)) ≡ true =
-        subst (λ ts. is_front ts (completed (map (term_at ts) numbers)) ≡ true) table_is (ap (λ us. is_front there.table (completed us)) (sym there.clauses.seen) ∙ there.front) in
-        order_told by_numbers there.nodes.order (as_many there.nodes.nodes) (subst (λ ts. InOrder ts [] (flat_map terms_of (flat_map in_order there.clauses.numbered))) table_is there.clauses.order) front
+        subst (λ ts. is_front ts (completed (map (term_at ts) numbers)) ≡ true) table_is (ap (λ us. is_front there.table (completed us)) (sym (there.clauses.seen ∙ ap (map (term_at there.table)) same)) ∙ there.front) in
+        order_told by_numbers there.nodes.order (as_many there.nodes.nodes) (subst (λ ts. InOrder ts [] (flat_map spelled_terms there.clauses.numbered)) table_is (subst (InOrder there.table []) same there.clauses.order)) front
 
     meant : Certificate
     meant = without_nodes by_numbers
@@ -151,7 +153,7 @@ module _ (P : Protocol) where
     is_meant : c ≡ meant
     unfolding meant by_numbers all
     is_meant =
-        let value : there.cs.value ≡ map (map_clause (term_at all)) there.clauses.numbered = subst (λ ts. there.cs.value ≡ map (map_clause (term_at ts)) there.clauses.numbered) table_is there.clauses.value in
+        let value : there.cs.value ≡ map (clause_meant all) there.clauses.numbered = subst (λ ts. there.cs.value ≡ map (clause_meant ts) there.clauses.numbered) table_is there.clauses.value in
         sym there.end.is ∙ ap (λ cs. made cs there.end.rows there.end.goals) value
 
     text_is : bytes ≡ text_with_nodes P meant rest
@@ -169,21 +171,22 @@ module _ (P : Protocol) where
     numberable =
         let walked = ordered.walked in
         let so_many : length all ≡ length there.nodes.nodes = as_many there.nodes.nodes in
-        let terms : AllByRecursion (IsTermOf P) all = all_terms_are P [] there.nodes.nodes tt there.nodes.are there.nodes.order in
-        let many : length (map (map_clause (term_at all)) there.clauses.numbered) ≡ length there.clauses.numbered = length-map there.clauses.numbered (map_clause (term_at all)) in
+        let terms : AllByRecursion (IsTermBelow most_side_variables P) all = all_terms_are P [] there.nodes.nodes tt there.nodes.are there.nodes.order in
+        let many : length (map (clause_meant all) there.clauses.numbered) ≡ length there.clauses.numbered = length-map there.clauses.numbered (clause_meant all) in
         let few = there.clauses.few in
         let small : AllByRecursion (λ t. size t ≤ most_symbols) all = subst (AllByRecursion (λ t. size t ≤ most_symbols)) table_is (there.nodes.small tt) in
         record {
           is = record {
-            clauses = clauses_are P all terms there.clauses.numbered there.clauses.are (subst (λ m. AllByRecursion (HasNumbersOf m) there.clauses.numbered) (sym so_many) ordered.clauses);
+            clauses = clauses_are P all terms there.clauses.numbered there.clauses.are (subst (λ m. AllByRecursion (HasNumbersOf m) there.clauses.numbered) (sym so_many) ordered.clauses)
+                (subst (λ us. AllByRecursion (HasOwnNumbers us) there.clauses.numbered) table_is there.clauses.own);
             rows = all_weaker IsRow (AllByRecursion IsShort) row_short there.end.rows there.end.rows_are;
             goals = all_weaker IsRow (AllByRecursion IsShort) row_short there.end.goals there.end.goals_are;
           };
-          stands = subst (λ ts. AllByRecursion StandsRight (map (map_clause (term_at ts)) there.clauses.numbered)) table_is there.clauses.right;
+          stands = subst (λ ts. AllByRecursion StandsRight (map (clause_meant ts) there.clauses.numbered)) table_is there.clauses.right;
           fits = record {
             nodes = subst (AllByRecursion (λ t. size t ≤ most_symbols)) (sym walked) small;
-            clauses = subst (λ ts. AllByRecursion (λ d. AreUpTo most_symbols (up_to_facts 0 (facts_in_order d))) (map (map_clause (term_at ts)) there.clauses.numbered)) table_is there.clauses.small;
-            together = subst (λ ts. AreUpTo most_certificate_symbols (up_to_clauses 0 (map (map_clause (term_at ts)) there.clauses.numbered))) table_is there.clauses.together;
+            clauses = subst (λ ts. AllByRecursion (λ d. AreUpTo most_symbols (up_to_clause 0 d)) (map (clause_meant ts) there.clauses.numbered)) table_is there.clauses.small;
+            together = subst (λ ts. AreUpTo most_certificate_symbols (up_to_clauses 0 (map (clause_meant ts) there.clauses.numbered))) table_is there.clauses.together;
           };
           few = omega (arith, few, many);
           rows = there.end.rows_are;

@@ -13,13 +13,18 @@ use Rattle.spec_node_faults.specs.Clauses.{is_front, completed}
 use Rattle.spec_node_reading.specs.Kinds.{KindIn, in_state, kept, changing, behind, one_of, marked, many, at_most, row_of}
 use Rattle.spec_node_reading.specs.Nodes.{node_lines}
 use Rattle.spec_node_reading.specs.Walked.{Walked, nothing_yet, next_clause}
-use Rattle.spec_node_reading.specs.Facts.{hypotheses, conclusions}
+use Rattle.spec_node_reading.specs.Facts.{hypotheses, conclusions, diffs}
 
 -- Where the table has these terms.
 module _ (P : Protocol) (table : List Term) where
-  -- hypotheses, a comma and a space between each two, and ` => `; or `=> ` alone
+  -- constraints, a comma and a space between each two, and ` => `
+  abbrev pub constraints : KindIn Walked
+  constraints = row_of (diffs P table) (codes ", ") (codes " => ")
+
+  -- hypotheses, and then constraints, a comma and a space between each two, and ` => `; or `=> ` alone
   abbrev pub premises : KindIn Walked
-  premises = one_of (kept (fixed (codes "=> "))) (row_of (hypotheses P table) (codes ", ") (codes " => "))
+  premises = one_of (kept (fixed (codes "=> ")))
+      (many (behind (hypotheses P table) (kept (fixed (codes ", ")))) (one_of (behind (hypotheses P table) (kept (fixed (codes " => ")))) constraints))
 
   -- `c `, a clause and the end of its line
   abbrev pub clause_lines : KindIn Walked

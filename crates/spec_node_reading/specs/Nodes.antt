@@ -83,9 +83,9 @@ lower_numbers own = marked numbers (BelowFault own)
 abbrev pub spaced_numbers : ℕ → Kind
 spaced_numbers own = many (behind (fixed (codes " ")) (lower_numbers own)) (nothing_before (EndsAt (λ b. b == 32)))
 
--- a node: a head and its numbers, or `@` and one
+-- a node: a head and its numbers, `@` and one, or `?` and the digits of a bound variable
 abbrev pub bodies : Protocol → ℕ → Kind
-bodies P own = one_of (behind (fixed (codes "@ ")) (lower_numbers own)) (behind (heads P) (spaced_numbers own))
+bodies P own = one_of (behind (fixed (codes "@ ")) (lower_numbers own)) (one_of (behind (fixed (codes "?")) numbers) (behind (heads P) (spaced_numbers own)))
 
 -- Faults of whole nodes, behind these terms.
 

@@ -9,6 +9,7 @@ use Rattle.spec_protocol_scope.specs.Names.{is_variable}
 use Rattle.spec_run_text.specs.Reading.{numeral}
 use Rattle.spec_terms.specs.Term.{Sym, Tuple, Attacker, Term}
 use Rattle.spec_clauses.specs.Fact.{same_term}
+use Rattle.spec_certificate_text.specs.Sides.{first_bound}
 use Rattle.spec_certificate_text.specs.Names.{Named, symbol_called, name_called}
 use Rattle.spec_certificate_text.specs.Terms.{Number, Symbol, Arity, NodeOrder, NodeLarge}
 use Rattle.spec_certificate_text.specs.Steps.{with_parts}
@@ -26,6 +27,10 @@ pub data HeadRead : Type 0 where
 abbrev pub as_variable : ℕ → Option ℕ → ℕ → List ℕ → Outcome HeadRead
 as_variable from None place rest = Faulty (from + 1) Number
 as_variable from (Some x) place rest = Found (IsVariable x) place rest
+
+-- behind `?`: a number, which is a bound variable's
+abbrev pub read_bound : Reader HeadRead
+read_bound bytes at = next (read_number bytes at) (λ i p r. Found (IsVariable (first_bound + i)) p r)
 
 abbrev pub as_symbol : ℕ → Option Named → ℕ → List ℕ → Outcome HeadRead
 as_symbol from None place rest = Faulty from Symbol
@@ -57,7 +62,7 @@ spaced_number own ns bytes at = next (read_fixed (codes " ") bytes at) (λ _ p r
 abbrev pub read_spaced : ℕ → Reader (List ℕ)
 read_spaced own bytes at = next (lines_through 32 (spaced_number own) (length bytes) [] bytes at) (λ ns p r. ended p r (Found ns p r))
 
--- what a node has, and its numbers
+-- what a node has, and its numbers: a bound variable has none
 pub record NodeRead : Type 0 where
   pub head : HeadRead
   pub numbers : List ℕ
@@ -67,7 +72,8 @@ read_body P own bytes at =
     if front bytes == 64
     then next (read_fixed (codes "@ ") bytes at) (λ _ p r. next (lower_number own r p) (λ n p r.
     Found (record { head = Names record { symbol = Attacker; arity = 1 }; numbers = n ∷ [] }) p r))
-    else next (read_head P bytes at) (λ head p r. next (read_spaced own r p) (λ ns p r. Found (record { head = head; numbers = ns }) p r))
+    else (if front bytes == 63 then next (read_bound (drop 1 bytes) (at + 1)) (λ head p r. Found (record { head = head; numbers = [] }) p r)
+    else next (read_head P bytes at) (λ head p r. next (read_spaced own r p) (λ ns p r. Found (record { head = head; numbers = ns }) p r)))
 
 -- whether it may have so many numbers
 abbrev pub may_take : Sym → ℕ → ℕ → Bool

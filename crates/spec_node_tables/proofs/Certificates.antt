@@ -11,25 +11,27 @@ use Rattle.spec_trees.specs.Tree.{Trees, Leaf, Node, none, more, trees, items_of
 use Rattle.spec_trees.proofs.Rows.{items_of-trees}
 use Rattle.spec_calculus.specs.Syntax.{Protocol}
 use Rattle.spec_terms.specs.Term.{Sym, Term}
-use Rattle.spec_clauses.specs.Fact.{Fact, Att, Mess, Tab, Ev, Mev, Bad, Clause, terms_of, map_fact, map_clause}
+use Rattle.spec_clauses.specs.Fact.{Fact, Att, Mess, Tab, Ev, Mev, Bad, Clause, terms_of, map_fact}
+use Rattle.spec_clauses.specs.Diff.{Diff, sides, side_slots}
+use Rattle.spec_certificate_text.specs.Sides.{SpelledClause, side_term, spelled_diff, spelled_clause, map_sides, map_spelled}
 use Rattle.spec_clauses.specs.Inclusion.{Has}
-use Rattle.spec_clauses.proofs.Lists.{all_append, all_first, all_second, all_weaker, all-flat_map}
+use Rattle.spec_clauses.proofs.Lists.{all_weaker, all-flat_map}
 use Rattle.spec_clauses.proofs.Inclusion.{all_has}
 use Rattle.spec_clauses.proofs.Parts.{terms_of-map}
 use Rattle.spec_certificates.specs.Certificate.{Certificate}
 use Rattle.spec_certificate_text.specs.Spelled.{Stops, goes_on}
-use Rattle.spec_certificate_text.specs.OfProtocol.{IsShort, IsSymbolOf, IsEvent, IsTable, IsTermOf, AreTermsOf, IsFactOf, IsClauseOf, IsCertificateOf, HasNames}
+use Rattle.spec_certificate_text.specs.OfProtocol.{IsShort, IsSymbolOf, IsEvent, IsTable, IsTermBelow, AreTermsBelow, IsTermOf, AreTermsOf, AreSidesOf, most_side_variables, IsOwnShort, IsDiffOf, IsFactOf, IsClauseOf, IsCertificateOf, HasNames}
 use Rattle.spec_certificate_text.specs.Text.{row_lines, certificate_text}
 use Rattle.spec_certificate_text.proofs.Runs.{both_left, first_same, run_apart}
 use Rattle.spec_certificate_text.proofs.Names.{decimal_digits, one_decimal}
 use Rattle.spec_certificate_text.proofs.Clauses.{Same, certificate_apart}
-use Rattle.spec_node_tables.specs.Table.{facts_in_order, terms_in_order, table, number_in, arguments_of, IsSubterm, itself, of_argument}
-use Rattle.spec_node_tables.specs.Nodes.{NodeCertificate, node_of, with_nodes, without_nodes}
+use Rattle.spec_node_tables.specs.Table.{spelled_terms, terms_in_order, table, number_in, arguments_of, IsSubterm, itself, of_argument}
+use Rattle.spec_node_tables.specs.Nodes.{NodeCertificate, node_of, with_nodes, without_nodes, HasShortDiffs}
 use Rattle.spec_node_tables.specs.Text.{number_text, clause_lines_over, node_lines, numbered_text, text_with_nodes}
-use Rattle.spec_node_tables.specs.OfProtocol.{IsNodeOf, HasPredicate, IsFactOver, IsClauseOver, IsNodeCertificateOf}
+use Rattle.spec_node_tables.specs.OfProtocol.{IsNodeOf, HasPredicate, IsFactOver, AreSidesOver, IsClauseOver, IsNodeCertificateOf}
 use Rattle.spec_node_tables.proofs.Walks.{table_has}
 use Rattle.spec_node_tables.proofs.Numbers.{place_within}
-use Rattle.spec_node_tables.proofs.Back.{all_there, terms_stand, certificate_back}
+use Rattle.spec_node_tables.proofs.Back.{all_there, terms_stand, of_parts, with_parts, certificate_back}
 use Rattle.spec_node_tables.proofs.Lines.{differ, is_letter, node_lines_apart}
 use Rattle.spec_node_tables.proofs.Facts.{TellsTerms, clause_lines_apart}
 
@@ -72,7 +74,7 @@ rows_stop letter [] [] k no_row no_goal no_end = no_end
 rows_stop letter [] (g ∷ goals) k no_row no_goal no_end = no_goal
 rows_stop letter (r ∷ rows) goals k no_row no_goal no_end = no_row
 
-lines_stop : (P : Protocol) (cs : List (Clause ℕ)) (rows goals : List (List ℕ)) (k : List ℕ) → Stops (is_letter 110) (clause_lines_over number_text P cs (end_text rows goals k))
+lines_stop : (P : Protocol) (cs : List (SpelledClause ℕ)) (rows goals : List (List ℕ)) (k : List ℕ) → Stops (is_letter 110) (clause_lines_over number_text P cs (end_text rows goals k))
 unfolding is_letter
 lines_stop P [] rows goals k = rows_stop 110 rows goals k refl refl refl
 lines_stop P (c ∷ cs) rows goals k = refl
@@ -111,42 +113,66 @@ pub mapped_all : {X Y : Type 0} (Q : X → Type 0) (R : Y → Type 0) (f : X →
 mapped_all Q R f gives [] all = tt
 mapped_all Q R f gives (x ∷ xs) all = (gives x all.0, mapped_all Q R f gives xs all.1)
 
-items_are : (P : Protocol) (ts : Trees ℕ Sym) → AreTermsOf P ts → AllByRecursion (IsTermOf P) (items_of ts)
-items_are P none are = tt
-items_are P (more t ts) are = (are.0, items_are P ts are.1)
+-- terms whose variables are below a number
+module _ (most : ℕ) (P : Protocol) where
+  items_are : (ts : Trees ℕ Sym) → AreTermsBelow most P ts → AllByRecursion (IsTermBelow most P) (items_of ts)
+  items_are none are = tt
+  items_are (more t ts) are = (are.0, items_are ts are.1)
 
-terms_are : (P : Protocol) (ts : List Term) → AreTermsOf P (trees ts) → AllByRecursion (IsTermOf P) ts
-terms_are P ts are = subst (AllByRecursion (IsTermOf P)) (items_of-trees ts) (items_are P (trees ts) are)
+  terms_are : (ts : List Term) → AreTermsBelow most P (trees ts) → AllByRecursion (IsTermBelow most P) ts
+  terms_are ts are = subst (AllByRecursion (IsTermBelow most P)) (items_of-trees ts) (items_are (trees ts) are)
 
-arguments_are : (P : Protocol) (t : Term) → IsTermOf P t → AllByRecursion (IsTermOf P) (arguments_of t)
-arguments_are P (Leaf x) is = tt
-arguments_are P (Node f args) is = items_are P args is.1
+  arguments_are : (t : Term) → IsTermBelow most P t → AllByRecursion (IsTermBelow most P) (arguments_of t)
+  arguments_are (Leaf x) is = tt
+  arguments_are (Node f args) is = items_are args is.1
 
-subterm_is : (P : Protocol) {t u : Term} → IsSubterm t u → IsTermOf P u → IsTermOf P t
-subterm_is P itself is = is
-subterm_is P (of_argument {u = u} {v = v} has within) is = subterm_is P within (all_has (IsTermOf P) (arguments_of v) u (arguments_are P v is) has)
+  subterm_is : {t u : Term} → IsSubterm t u → IsTermBelow most P u → IsTermBelow most P t
+  subterm_is itself is = is
+  subterm_is (of_argument {u = u} {v = v} has within) is = subterm_is within (all_has (IsTermBelow most P) (arguments_of v) u (arguments_are v is) has)
 
-fact_terms_are : (P : Protocol) (f : Fact Term) → IsFactOf P f → AllByRecursion (IsTermOf P) (terms_of f)
-fact_terms_are P (Att k t) is = (is.1, tt)
-fact_terms_are P (Mess k t u) is = (is.1, (is.2, tt))
-fact_terms_are P (Tab n ts) is = terms_are P ts is.1
-fact_terms_are P (Ev e ts) is = terms_are P ts is.1
-fact_terms_are P (Mev e ts) is = terms_are P ts is.1
-fact_terms_are P (Bad ts) is = terms_are P ts is
+-- those of facts are among those of sides
+mutual
+  term_side : (P : Protocol) (t : Term) → IsTermOf P t → IsTermBelow most_side_variables P t
+  term_side P (Leaf x) is = omega (arith, is)
+  term_side P (Node f ts) is = (is.0, terms_side P ts is.1)
 
-clause_facts_are : (P : Protocol) (c : Clause Term) → IsClauseOf P c → AllByRecursion (IsFactOf P) (facts_in_order c)
-clause_facts_are P c is = all_append (IsFactOf P) c.hypotheses (c.conclusion ∷ []) is.hypotheses (is.conclusion, tt)
+  terms_side : (P : Protocol) (ts : Trees ℕ Sym) → AreTermsOf P ts → AreSidesOf P ts
+  terms_side P none are = tt
+  terms_side P (more t ts) are = (term_side P t are.0, terms_side P ts are.1)
 
-ordered_terms_are : (P : Protocol) (cs : List (Clause Term)) → AllByRecursion (IsClauseOf P) cs → AllByRecursion (IsTermOf P) (terms_in_order cs)
+fact_terms_are : (P : Protocol) (f : Fact Term) → IsFactOf P f → AllByRecursion (IsTermBelow most_side_variables P) (terms_of f)
+fact_terms_are P (Att k t) is = (term_side P t is.1, tt)
+fact_terms_are P (Mess k t u) is = (term_side P t is.1, (term_side P u is.2, tt))
+fact_terms_are P (Tab n ts) is = terms_are most_side_variables P ts (terms_side P (trees ts) is.1)
+fact_terms_are P (Ev e ts) is = terms_are most_side_variables P ts (terms_side P (trees ts) is.1)
+fact_terms_are P (Mev e ts) is = terms_are most_side_variables P ts (terms_side P (trees ts) is.1)
+fact_terms_are P (Bad ts) is = terms_are most_side_variables P ts (terms_side P (trees ts) is)
+
+lefts_are : (P : Protocol) (ds : List Diff) → AllByRecursion (IsDiffOf P) ds → AllByRecursion (λ s. AllByRecursion (IsTermBelow most_side_variables P) s.left) (map spelled_diff ds)
+lefts_are P [] are = tt
+lefts_are P (d ∷ ds) are = (terms_are most_side_variables P (spelled_diff d).left are.0.left, lefts_are P ds are.1)
+
+rights_are : (P : Protocol) (ds : List Diff) → AllByRecursion (IsDiffOf P) ds → AllByRecursion (λ s. AllByRecursion (IsTermBelow most_side_variables P) s.right) (map spelled_diff ds)
+rights_are P [] are = tt
+rights_are P (d ∷ ds) are = (terms_are most_side_variables P (spelled_diff d).right are.0.right, rights_are P ds are.1)
+
+clause_terms_are : (P : Protocol) (c : Clause Term) → IsClauseOf P c → AllByRecursion (IsTermBelow most_side_variables P) (spelled_terms (spelled_clause c))
+clause_terms_are P c is = with_parts (IsTermBelow most_side_variables P) (spelled_clause c) record {
+  hypotheses = all_weaker (IsFactOf P) (λ f. AllByRecursion (IsTermBelow most_side_variables P) (terms_of f)) (fact_terms_are P) c.hypotheses is.hypotheses;
+  left = lefts_are P c.diffs is.diffs;
+  right = rights_are P c.diffs is.diffs;
+  conclusion = fact_terms_are P c.conclusion is.conclusion;
+}
+
+ordered_terms_are : (P : Protocol) (cs : List (Clause Term)) → AllByRecursion (IsClauseOf P) cs → AllByRecursion (IsTermBelow most_side_variables P) (terms_in_order cs)
 ordered_terms_are P cs are =
-    all-flat_map (IsTermOf P) terms_of _
-    (all_weaker (IsFactOf P) (λ f. AllByRecursion (IsTermOf P) (terms_of f)) (fact_terms_are P) _
-    (all-flat_map (IsFactOf P) facts_in_order cs (all_weaker (IsClauseOf P) (λ c. AllByRecursion (IsFactOf P) (facts_in_order c)) (clause_facts_are P) cs are)))
+    all-flat_map (IsTermBelow most_side_variables P) (λ c. spelled_terms (spelled_clause c)) cs
+    (all_weaker (IsClauseOf P) (λ c. AllByRecursion (IsTermBelow most_side_variables P) (spelled_terms (spelled_clause c))) (clause_terms_are P) cs are)
 
-table_term_is : (P : Protocol) (cs : List (Clause Term)) → AllByRecursion (IsClauseOf P) cs → (t : Term) → Has (table cs) t → IsTermOf P t
+table_term_is : (P : Protocol) (cs : List (Clause Term)) → AllByRecursion (IsClauseOf P) cs → (t : Term) → Has (table cs) t → IsTermBelow most_side_variables P t
 table_term_is P cs are t h =
     let (u, has, within) = (table_has cs t).0 h in
-    subterm_is P within (all_has (IsTermOf P) (terms_in_order cs) u (ordered_terms_are P cs are) has)
+    subterm_is most_side_variables P within (all_has (IsTermBelow most_side_variables P) (terms_in_order cs) u (ordered_terms_are P cs are) has)
 
 deeper : {t u v : Term} → Has (arguments_of t) u → IsSubterm t v → IsSubterm u v
 deeper argument itself = of_argument argument itself
@@ -158,44 +184,61 @@ argument_stands cs t u h argument =
     (table_has cs u).1 (v, has, deeper argument within)
 
 module _ (P : Protocol) (cs : List (Clause Term)) (are : AllByRecursion (IsClauseOf P) cs) (few : IsShort (length (table cs))) where
-  number_short : (t : Term) → Has (table cs) t → IsShort (number_in (table cs) t)
+  abbrev number : Term → ℕ
+  number = number_in (table cs)
+
+  number_short : (t : Term) → Has (table cs) t → IsShort (number t)
   number_short t h = let below = place_within (table cs) t h in omega arith
+
+  numbers_short : (ts : List Term) → AllByRecursion (Has (table cs)) ts → AllByRecursion IsShort (map number ts)
+  numbers_short ts stand = mapped_all (Has (table cs)) IsShort number number_short ts stand
 
   pub node_is : (t : Term) → Has (table cs) t → IsNodeOf P (node_of (table cs) t)
   node_is (Leaf x) h = table_term_is P cs are (Leaf x) h
   node_is (Node f args) h =
       let is = table_term_is P cs are (Node f args) h in
-      let stand = all_weaker (Has (items_of args)) (Has (table cs)) (λ u argument. argument_stands cs (Node f args) u h argument) (items_of args) (all_there (items_of args)) in (
-        subst (λ n. IsSymbolOf P f n) (sym (length-map (items_of args) (number_in (table cs)))) is.0,
-        mapped_all (Has (table cs)) IsShort (number_in (table cs)) number_short (items_of args) stand,
-      )
+      let stand = all_weaker (Has (items_of args)) (Has (table cs)) (λ u argument. argument_stands cs (Node f args) u h argument) (items_of args) (all_there (items_of args)) in
+      (subst (λ n. IsSymbolOf P f n) (sym (length-map (items_of args) number)) is.0, numbers_short (items_of args) stand)
 
-  predicate_is : (f : Fact Term) → IsFactOf P f → HasPredicate P (map_fact (number_in (table cs)) f)
+  predicate_is : (f : Fact Term) → IsFactOf P f → HasPredicate P (map_fact number f)
   predicate_is (Att k t) is = is.0
   predicate_is (Mess k t u) is = is.0
-  predicate_is (Tab n ts) is = subst (IsTable P n) (sym (length-map ts (number_in (table cs)))) is.0
-  predicate_is (Ev e ts) is = subst (IsEvent P e) (sym (length-map ts (number_in (table cs)))) is.0
-  predicate_is (Mev e ts) is = subst (IsEvent P e) (sym (length-map ts (number_in (table cs)))) is.0
+  predicate_is (Tab n ts) is = subst (IsTable P n) (sym (length-map ts number)) is.0
+  predicate_is (Ev e ts) is = subst (IsEvent P e) (sym (length-map ts number)) is.0
+  predicate_is (Mev e ts) is = subst (IsEvent P e) (sym (length-map ts number)) is.0
   predicate_is (Bad ts) is = tt
 
-  fact_is : (f : Fact Term) → IsFactOf P f → AllByRecursion (Has (table cs)) (terms_of f) → IsFactOver IsShort P (map_fact (number_in (table cs)) f)
-  fact_is f is stand =
-      (predicate_is f is, subst (AllByRecursion IsShort) (sym (terms_of-map (number_in (table cs)) f)) (mapped_all (Has (table cs)) IsShort (number_in (table cs)) number_short (terms_of f) stand))
+  fact_is : (f : Fact Term) → IsFactOf P f → AllByRecursion (Has (table cs)) (terms_of f) → IsFactOver IsShort P (map_fact number f)
+  fact_is f is stand = (predicate_is f is, subst (AllByRecursion IsShort) (sym (terms_of-map number f)) (numbers_short (terms_of f) stand))
 
-  facts_are : (fs : List (Fact Term)) → AllByRecursion (IsFactOf P) fs → AllByRecursion (λ f. AllByRecursion (Has (table cs)) (terms_of f)) fs → AllByRecursion (IsFactOver IsShort P) (map (map_fact (number_in (table cs))) fs)
+  facts_are : (fs : List (Fact Term)) → AllByRecursion (IsFactOf P) fs → AllByRecursion (λ f. AllByRecursion (Has (table cs)) (terms_of f)) fs → AllByRecursion (IsFactOver IsShort P) (map (map_fact number) fs)
   facts_are [] is stand = tt
   facts_are (f ∷ fs) is stand = (fact_is f is.0 stand.0, facts_are fs is.1 stand.1)
 
-  pub clauses_are : (ds : List (Clause Term)) → AllByRecursion (IsClauseOf P) ds → AllByRecursion (λ c. AllByRecursion (λ f. AllByRecursion (Has (table cs)) (terms_of f)) (facts_in_order c)) ds → AllByRecursion (IsClauseOver IsShort P) (map (map_clause (number_in (table cs))) ds)
+  side_is : (d : Diff) → IsDiffOf P d → AllByRecursion (Has (table cs)) (spelled_diff d).left → AllByRecursion (Has (table cs)) (spelled_diff d).right → AreSidesOver IsShort (map_sides number (spelled_diff d))
+  side_is d is left right = record {
+    left = numbers_short (spelled_diff d).left left;
+    right = numbers_short (spelled_diff d).right right;
+    paired = omega (arith, length-map (spelled_diff d).left number, length-map (spelled_diff d).right number, length-map d.left side_term, length-map d.right side_term, is.paired);
+    some = omega (arith, length-map (spelled_diff d).left number, length-map d.left side_term, is.some);
+  }
+
+  sides_are : (ds : List Diff) → AllByRecursion (IsDiffOf P) ds → AllByRecursion (λ s. AllByRecursion (Has (table cs)) s.left) (map spelled_diff ds) → AllByRecursion (λ s. AllByRecursion (Has (table cs)) s.right) (map spelled_diff ds)
+      → AllByRecursion (AreSidesOver IsShort) (map (map_sides number) (map spelled_diff ds))
+  sides_are [] is left right = tt
+  sides_are (d ∷ ds) is left right = (side_is d is.0 left.0 right.0, sides_are ds is.1 left.1 right.1)
+
+  pub clauses_are : (ds : List (Clause Term)) → AllByRecursion (IsClauseOf P) ds → AllByRecursion (λ c. AllByRecursion (Has (table cs)) (spelled_terms (spelled_clause c))) ds → AllByRecursion (IsClauseOver IsShort P) (map (λ c. map_spelled number (spelled_clause c)) ds)
   clauses_are [] is stand = tt
-  clauses_are (d ∷ ds) is stand = (
-    record {
-      hypotheses = facts_are d.hypotheses is.0.hypotheses (all_first (λ f. AllByRecursion (Has (table cs)) (terms_of f)) d.hypotheses (d.conclusion ∷ []) stand.0);
-      diffs = is.0.diffs;
-      conclusion = fact_is d.conclusion is.0.conclusion (all_second (λ f. AllByRecursion (Has (table cs)) (terms_of f)) d.hypotheses (d.conclusion ∷ []) stand.0).0;
-    },
-    clauses_are ds is.1 stand.1,
-  )
+  clauses_are (d ∷ ds) is stand =
+      let parts = of_parts (Has (table cs)) (spelled_clause d) stand.0 in (
+        record {
+          hypotheses = facts_are d.hypotheses is.0.hypotheses parts.hypotheses;
+          diffs = sides_are d.diffs is.0.diffs parts.left parts.right;
+          conclusion = fact_is d.conclusion is.0.conclusion parts.conclusion;
+        },
+        clauses_are ds is.1 stand.1,
+      )
 
 pub with_nodes_is : (P : Protocol) (c : Certificate) → IsCertificateOf P c → IsShort (length (table c.clauses)) → IsNodeCertificateOf P (with_nodes c)
 with_nodes_is P c is few = record {
@@ -205,11 +248,15 @@ with_nodes_is P c is few = record {
   goals = is.goals;
 }
 
+-- clauses of a protocol have short variables in their constraints
+pub short_diffs : (P : Protocol) (cs : List (Clause Term)) → AllByRecursion (IsClauseOf P) cs → AllByRecursion HasShortDiffs cs
+short_diffs P cs are = all_weaker (IsClauseOf P) HasShortDiffs (λ c is. all_weaker (IsDiffOf P) (λ d. AllByRecursion IsOwnShort (side_slots (sides d))) (λ d has. has.own) c.diffs is.diffs) cs are
+
 -- two certificates with rests are one certificate and one rest, where the texts are one
 pub certificates_apart : (P : Protocol) → HasNames P → (c d : Certificate) (k l : List ℕ) → IsCertificateOf P c → IsCertificateOf P d → IsShort (length (table c.clauses)) → IsShort (length (table d.clauses)) → text_with_nodes P c k ≡ text_with_nodes P d l → Same c d k l
 certificates_apart P names c d k l is_c is_d few_c few_d e =
     let same = numbered_apart P names (with_nodes c) (with_nodes d) k l (with_nodes_is P c is_c few_c) (with_nodes_is P d is_d few_d) e in
-    record { thing = sym (certificate_back c) ∙ (ap without_nodes same.thing ∙ certificate_back d); rest = same.rest }
+    record { thing = sym (certificate_back c (short_diffs P c.clauses is_c.clauses)) ∙ (ap without_nodes same.thing ∙ certificate_back d (short_diffs P d.clauses is_d.clauses)); rest = same.rest }
 
 -- the sixth byte tells the formats apart
 pub formats_apart : (P Q : Protocol) (c : Certificate) (d : NodeCertificate) (k l : List ℕ) → certificate_text P c k ≡ numbered_text Q d l → ⊥

@@ -1,25 +1,30 @@
 -- Nodes of a protocol are told apart by their lines.
-use Rattle.std.proofs.Common.{◌≡◌, ℕ, Bool, true, false, ◌==◌, List, [], ◌∷◌, ◌++◌, map, length, refl, sym, ◌∙◌, ap, subst, arith}
+use Rattle.std.proofs.Common.{◌≡◌, ℕ, ◌-◌, ◌<◌, Bool, true, false, ◌==◌, List, [], ◌∷◌, ◌++◌, map, length, refl, sym, ◌∙◌, ap, subst, arith}
 use Rattle.std.specs.Char.{is_ascii_digit}
+use Rattle.std.specs.Prelude.{nat_lt}
+use borrow.Author.Tests.{ltb-true, ltb-false}
 use Rattle.std.specs.Fmt.{decimal}
 use Rattle.std.specs.List.{list_all, AllByRecursion}
 use Rattle.std.proofs.lemmas.List.{length-map}
 use Rattle.std.proofs.lemmas.Bool.Decides.{nat_tests}
-use Rattle.spec_trees.specs.Tree.{Leaf, Node, none, more, node, trees, items_of}
+use Rattle.spec_trees.specs.Tree.{Leaf, Node, node, trees, items_of}
 use Rattle.spec_trees.proofs.Rows.{items_of-trees}
 use Rattle.spec_trees.proofs.Occurrence.{or_false}
 use Rattle.spec_calculus.specs.Syntax.{Protocol}
 use Rattle.spec_protocol_tokens.specs.Bytes.{is_in_word}
 use Rattle.spec_terms.specs.Term.{Sym, Ctor, Data, Tuple, Free, Point, Attacker, Term}
 use Rattle.spec_certificate_text.specs.Loose.{Head, Applied, Tupled, Made, Attackers, Loose, LooseRow}
-use Rattle.spec_certificate_text.specs.Spelled.{IsWord, IsHead, IsLoose, Stops, goes_on}
-use Rattle.spec_certificate_text.specs.OfProtocol.{IsShort, IsSymbolOf, IsTermOf, AreTermsOf, HasNames}
+use Rattle.spec_certificate_text.specs.Sides.{first_bound}
+use Rattle.spec_certificate_text.specs.Words.{declared_word}
+use Rattle.spec_certificate_text.specs.Spelled.{IsWord, IsHead, Stops, goes_on}
+use Rattle.spec_certificate_text.specs.OfProtocol.{IsShort, IsSymbolOf, IsTermBelow, AreSidesOf, most_side_variables, HasNames}
 use Rattle.spec_certificate_text.specs.Written.{applied, headed, written, written_row}
 use Rattle.spec_certificate_text.specs.Text.{numbers_text}
 use Rattle.spec_certificate_text.proofs.Runs.{first_same, later_same, run_apart}
-use Rattle.spec_certificate_text.proofs.Apart.{no_word}
-use Rattle.spec_certificate_text.proofs.Names.{decimal_digits, one_decimal}
-use Rattle.spec_certificate_text.proofs.Terms.{written_is_loose, written_apart}
+use Rattle.spec_certificate_text.proofs.Apart.{no_word, word_begins}
+use Rattle.spec_certificate_text.proofs.Sides.{own_word, bound_word}
+use Rattle.spec_certificate_text.proofs.Names.{symbol_word_is_word, constructor_word, free_word, restriction_word_is_word, variable_is_word, decimal_digits, one_decimal}
+use Rattle.spec_certificate_text.proofs.Terms.{sides_apart}
 use Rattle.spec_certificate_text.proofs.Clauses.{Same}
 use Rattle.spec_node_tables.specs.Nodes.{TableNode, Variable, Over}
 use Rattle.spec_node_tables.specs.OfProtocol.{IsNodeOf}
@@ -133,7 +138,7 @@ sample : TableNode → Term
 sample (Variable x) = Leaf x
 sample (Over f ns) = node f (zeros ns)
 
-zeros_are : (P : Protocol) (ns : List ℕ) → AreTermsOf P (trees (zeros ns))
+zeros_are : (P : Protocol) (ns : List ℕ) → AreSidesOf P (trees (zeros ns))
 unfolding zeros
 zeros_are P [] = tt
 zeros_are P (n ∷ ns) = (omega arith, zeros_are P ns)
@@ -142,7 +147,7 @@ zeros_length : (ns : List ℕ) → length (items_of (trees (zeros ns))) ≡ leng
 unfolding zeros
 zeros_length ns = ap length (items_of-trees (map (λ n. Leaf 0) ns)) ∙ length-map ns (λ n. Leaf 0)
 
-sample_is : (P : Protocol) (n : TableNode) → IsNodeOf P n → IsTermOf P (sample n)
+sample_is : (P : Protocol) (n : TableNode) → IsNodeOf P n → IsTermBelow most_side_variables P (sample n)
 unfolding sample
 sample_is P (Variable x) is = is
 sample_is P (Over f ns) is = (subst (IsSymbolOf P f) (sym (zeros_length ns)) is.0, zeros_are P ns)
@@ -168,17 +173,24 @@ unfolding sample over zeros
 written-sample P (Variable x) = refl
 written-sample P (Over f ns) = headed-over P f (written_row P (trees (zeros ns)))
 
-head_is : (h : Head) (ts : LooseRow) → IsLoose (over h ts) → IsHead h
-unfolding over
-head_is (Applied w) none is = is
-head_is (Applied w) (more t ts) is = is.0
-head_is Tupled ts is = tt
-head_is (Made w d) ts is = is.0
-head_is Attackers ts is = tt
+-- The heads of nodes, but for those of bound variables, are heads.
 
-pub node_head_is : (P : Protocol) → HasNames P → (n : TableNode) → IsNodeOf P n → IsHead (node_head P n)
-node_head_is P names n is =
-    head_is (node_head P n) (written_row P (trees (zeros (node_numbers n)))) (subst IsLoose (written-sample P n) (written_is_loose P names (sample n) (sample_is P n is)))
+own_node : TableNode → Bool
+own_node (Variable x) = nat_lt x first_bound
+own_node (Over f ns) = true
+
+pub symbol_head_is : (P : Protocol) → HasNames P → (f : Sym) (n : ℕ) → IsSymbolOf P f n → IsHead (symbol_head P f)
+symbol_head_is P names (Ctor f) n is = symbol_word_is_word (declared_word P.constructors f) (constructor_word P false f n names is)
+symbol_head_is P names (Data f) n is = symbol_word_is_word (declared_word P.constructors f) (constructor_word P true f n names is)
+symbol_head_is P names (Tuple m) n is = tt
+symbol_head_is P names (Free a) n is = symbol_word_is_word (declared_word P.frees a) (free_word P a names is.0)
+symbol_head_is P names (Point p) n is = (restriction_word_is_word P p n names is.0, decimal_digits p is.1)
+symbol_head_is P names Attacker n is = tt
+
+node_head_is : (P : Protocol) → HasNames P → (n : TableNode) → IsNodeOf P n → own_node n ≡ true → IsHead (node_head P n)
+unfolding own_node
+node_head_is P names (Variable x) is own = let short = ltb-true x first_bound own in subst IsWord (sym (own_word x short)) (variable_is_word x short)
+node_head_is P names (Over f ns) is own = symbol_head_is P names f (length ns) is.0
 
 samples_apart : (a b : TableNode) → sample a ≡ sample b → node_numbers a ≡ node_numbers b → a ≡ b
 unfolding sample
@@ -192,20 +204,60 @@ nodes_same P names a b is_a is_b heads numbers =
     let texts : written P (sample a) ≡ written P (sample b) =
     written-sample P a ∙ (ap (λ h. over h (written_row P (trees (zeros (node_numbers a))))) heads
     ∙ (ap (λ ns. over (node_head P b) (written_row P (trees (zeros ns)))) numbers ∙ sym (written-sample P b))) in
-    samples_apart a b (written_apart P names (sample a) (sample b) (sample_is P a is_a) (sample_is P b is_b) texts) numbers
+    samples_apart a b (sides_apart most_side_variables (omega arith) P names (sample a) (sample b) (sample_is P a is_a) (sample_is P b is_b) texts) numbers
 
 short_numbers : (P : Protocol) (n : TableNode) → IsNodeOf P n → AllByRecursion IsShort (node_numbers n)
 short_numbers P (Variable x) is = tt
 short_numbers P (Over f ns) is = is.1
 
-node_apart : (P : Protocol) → HasNames P → (a b : TableNode) (k l : List ℕ) → IsNodeOf P a → IsNodeOf P b → node_text P a (10 ∷ k) ≡ node_text P b (10 ∷ l) → Same a b k l
-node_apart P names a b k l is_a is_b e =
+own_apart : (P : Protocol) → HasNames P → (a b : TableNode) (k l : List ℕ) → IsNodeOf P a → IsNodeOf P b → own_node a ≡ true → own_node b ≡ true → node_text P a (10 ∷ k) ≡ node_text P b (10 ∷ l) → Same a b k l
+own_apart P names a b k l is_a is_b own_a own_b e =
     let x = numbers_text (node_numbers a) (10 ∷ k) in
     let y = numbers_text (node_numbers b) (10 ∷ l) in
-    let heads = heads_apart (node_head P a) (node_head P b) x y (node_head_is P names a is_a) (node_head_is P names b is_b)
+    let heads = heads_apart (node_head P a) (node_head P b) x y (node_head_is P names a is_a own_a) (node_head_is P names b is_b own_b)
     (numbers_stop_words (node_numbers a) k) (numbers_stop_words (node_numbers b) l) (numbers_stop_digits (node_numbers a) k) (numbers_stop_digits (node_numbers b) l) e in
     let numbers = numbers_apart (node_numbers a) (node_numbers b) k l (short_numbers P a is_a) (short_numbers P b is_b) heads.behind in
     record { thing = nodes_same P names a b is_a is_b heads.head numbers.thing; rest = numbers.rest }
+
+-- Bound variables: `?` and digits.
+
+bound_text : (P : Protocol) (x : ℕ) (rest : List ℕ) → nat_lt x first_bound ≡ false → node_text P (Variable x) rest ≡ 63 ∷ (decimal (x - first_bound) ++ rest)
+bound_text P x rest bound = ap (λ w. w ++ rest) (bound_word x (ltb-false x first_bound bound))
+
+head_no_bound : (h : Head) (rest y : List ℕ) → IsHead h → head_text h rest ≡ 63 ∷ y → ⊥
+head_no_bound (Applied word) rest y is e = word_begins word rest 63 y is refl e
+head_no_bound Tupled rest y is e = differ 40 63 (41 ∷ rest) y refl e
+head_no_bound (Made word digits) rest y is e = word_begins word (64 ∷ (digits ++ rest)) 63 y is.0 refl e
+head_no_bound Attackers rest y is e = differ 64 63 rest y refl e
+
+-- no other node begins so
+no_bound : (P : Protocol) → HasNames P → (a b : TableNode) (k l : List ℕ) → IsNodeOf P a → own_node a ≡ true → own_node b ≡ false → node_text P a k ≡ node_text P b l → ⊥
+unfolding own_node
+no_bound P names a (Variable y) k l is own bound e = head_no_bound (node_head P a) (numbers_text (node_numbers a) k) (decimal (y - first_bound) ++ l) (node_head_is P names a is own) (e ∙ bound_text P y l bound)
+no_bound P names a (Over g ms) k l is own bound e = absurd (cc)
+
+bound_apart : (P : Protocol) (a b : TableNode) (k l : List ℕ) → IsNodeOf P a → IsNodeOf P b → own_node a ≡ false → own_node b ≡ false → node_text P a (10 ∷ k) ≡ node_text P b (10 ∷ l) → Same a b k l
+unfolding own_node
+bound_apart P (Variable x) (Variable y) k l is_a is_b bound_a bound_b e =
+    let over_x = ltb-false x first_bound bound_a in
+    let over_y = ltb-false y first_bound bound_b in
+    let short_x : x - first_bound < first_bound = omega (arith, is_a, over_x) in
+    let short_y : y - first_bound < first_bound = omega (arith, is_b, over_y) in
+    let inside = later_same 63 63 (decimal (x - first_bound) ++ (10 ∷ k)) (decimal (y - first_bound) ++ (10 ∷ l)) (sym (bound_text P x (10 ∷ k) bound_a) ∙ (e ∙ bound_text P y (10 ∷ l) bound_b)) in
+    let digits = run_apart is_ascii_digit (decimal (x - first_bound)) (decimal (y - first_bound)) (10 ∷ k) (10 ∷ l) (decimal_digits (x - first_bound) short_x) (decimal_digits (y - first_bound) short_y) refl refl inside in
+    let same = one_decimal (x - first_bound) (y - first_bound) short_x short_y digits.run in
+    let numbers : x ≡ y = omega (arith, same, over_x, over_y) in
+    record { thing = ap Variable numbers; rest = later_same 10 10 k l digits.rest }
+bound_apart P (Over f ns) b k l is_a is_b bound_a bound_b e = absurd (cc)
+bound_apart P (Variable x) (Over g ms) k l is_a is_b bound_a bound_b e = absurd (cc)
+
+node_apart : (P : Protocol) → HasNames P → (a b : TableNode) (k l : List ℕ) → IsNodeOf P a → IsNodeOf P b → node_text P a (10 ∷ k) ≡ node_text P b (10 ∷ l) → Same a b k l
+node_apart P names a b k l is_a is_b e = go (own_node a) (own_node b) refl refl where
+  go : (c d : Bool) → own_node a ≡ c → own_node b ≡ d → Same a b k l
+  go true true own_a own_b = own_apart P names a b k l is_a is_b own_a own_b e
+  go true false own_a bound_b = absurd (no_bound P names a b (10 ∷ k) (10 ∷ l) is_a own_a bound_b e)
+  go false true bound_a own_b = absurd (no_bound P names b a (10 ∷ l) (10 ∷ k) is_b own_b bound_a (sym e))
+  go false false bound_a bound_b = bound_apart P a b k l is_a is_b bound_a bound_b e
 
 -- whether the byte is that letter
 unfoldable pub is_letter : ℕ → ℕ → Bool

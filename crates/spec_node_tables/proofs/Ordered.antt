@@ -1,25 +1,28 @@
 -- A certificate by numbers is made of a certificate exactly where its nodes stand in the order of the walk.
 use Rattle.std.proofs.Common.{◌≡◌, ◌↔◌, ℕ, zero, suc, ◌+◌, ◌<◌, nat_le, Bool, true, false, List, [], ◌∷◌, ◌++◌, map, length, Some, slice_get, unwrap_or, refl, sym, ◌∙◌, ap, subst, arith, length-append}
 use Rattle.std.specs.List.{AllByRecursion, IsDistinct}
+use Rattle.std.specs.Prelude.{flat_map}
 use Rattle.std.proofs.lemmas.List.{append_assoc, append-nil, length-map}
 use Rattle.std.proofs.lemmas.Bool.Decides.{nat_tests}
 use Rattle.spec_trees.specs.Tree.{Leaf, Node, items_of}
 use Rattle.spec_trees.proofs.Rows.{items_of-trees}
 use Rattle.spec_terms.specs.Term.{Term}
-use Rattle.spec_clauses.specs.Fact.{Fact, Clause, terms_of, map_fact, map_clause, same_term}
+use Rattle.spec_clauses.specs.Fact.{Fact, Clause, terms_of, map_fact, same_term}
+use Rattle.spec_clauses.specs.Norm.{distinct}
 use Rattle.spec_clauses.specs.Inclusion.{here, there, Has}
-use Rattle.spec_clauses.proofs.Lists.{all_append, all_weaker, all_first, all_second}
+use Rattle.spec_clauses.proofs.Lists.{all_append, all_weaker}
 use Rattle.spec_clauses.proofs.Equality.{same_term-decides}
 use Rattle.spec_clauses.proofs.Parts.{terms_of-map}
-use Rattle.spec_clauses.proofs.Facts.{map_fact-map_fact, map_fact-agree, map_fact-id}
 use Rattle.spec_certificates.specs.Certificate.{Certificate}
-use Rattle.spec_node_tables.specs.Table.{facts_in_order, table, place_in, number_in, arguments_of}
+use Rattle.spec_certificate_text.specs.Sides.{SidesOf, SpelledClause, spelled_clause, meant_clause, map_sides, map_spelled}
+use Rattle.spec_certificate_text.proofs.Sides.{diffs_spelled}
+use Rattle.spec_node_tables.specs.Table.{walk, spelled_terms, terms_in_order, table, place_in, number_in, arguments_of}
 use Rattle.spec_node_tables.specs.Nodes.{TableNode, Variable, Over, NodeCertificate, node_of, with_nodes, term_at, term_of, terms_from, without_nodes}
 use Rattle.spec_node_tables.specs.Text.{node_numbers}
 use Rattle.spec_node_tables.specs.Order.{IsNumberOf, StandInOrder, HasNumbersOf, IsInOrder}
 use Rattle.spec_node_tables.proofs.Walks.{ArgumentsFirst, table_first, table_distinct}
 use Rattle.spec_node_tables.proofs.Numbers.{Lacks, place_of_new, place_before, place_within}
-use Rattle.spec_node_tables.proofs.Back.{mapped_back, node_back, table_back, terms_stand, certificate_back}
+use Rattle.spec_node_tables.proofs.Back.{mapped_back, node_back, table_back, terms_stand, of_parts, with_parts, spelled_back, by_numbers_back}
 
 -- the item of a number within a list
 at_number : (ts us : List Term) (k : ℕ) → k < length ts → slice_get (ts ++ us) k ≡ slice_get ts k
@@ -111,26 +114,24 @@ counts_none : Counts []
 unfolding Counts
 counts_none k less = absurd (omega arith)
 
+-- a clause that is meant is spelled as it was
+pub clause_spelled : (c : SpelledClause Term) → spelled_clause (meant_clause c) ≡ c
+clause_spelled c = let diffs = diffs_spelled c.diffs in λ i. record { hypotheses = c.hypotheses; diffs = diffs i; conclusion = c.conclusion }
+
 module _ (ts : List Term) (counts : Counts ts) where
   one_again : (n : ℕ) → IsNumberOf (length ts) n → number_in ts (term_at ts n) ≡ n
   one_again n is = subst (λ us. number_in us (term_at ts n) ≡ n) (append-nil ts) (number_back ts [] n counts is)
 
-  fact_again : (f : Fact ℕ) → AllByRecursion (IsNumberOf (length ts)) (terms_of f) → map_fact (number_in ts) (map_fact (term_at ts) f) ≡ f
-  fact_again f are =
-      map_fact-map_fact (number_in ts) (term_at ts) f
-      ∙ (map_fact-agree (λ n. number_in ts (term_at ts n)) (λ n. n) f (all_weaker (IsNumberOf (length ts)) (λ n. number_in ts (term_at ts n) ≡ n) one_again (terms_of f) are) ∙ map_fact-id f)
+  clause_again : (c : SpelledClause ℕ) → HasNumbersOf (length ts) c → map_spelled (number_in ts) (map_spelled (term_at ts) c) ≡ c
+  clause_again c are = spelled_back (number_in ts) (term_at ts) c (all_weaker (IsNumberOf (length ts)) (λ n. number_in ts (term_at ts n) ≡ n) one_again (spelled_terms c) are)
 
-  facts_again : (fs : List (Fact ℕ)) → AllByRecursion (λ f. AllByRecursion (IsNumberOf (length ts)) (terms_of f)) fs → map (map_fact (number_in ts)) (map (map_fact (term_at ts)) fs) ≡ fs
-  facts_again fs are = mapped_back (map_fact (number_in ts)) (map_fact (term_at ts)) fs (all_weaker (λ f. AllByRecursion (IsNumberOf (length ts)) (terms_of f)) (λ f. map_fact (number_in ts) (map_fact (term_at ts) f) ≡ f) fact_again fs are)
+  -- what is spelled of what is meant is as it was
+  meant_again : (c : SpelledClause ℕ) → HasNumbersOf (length ts) c → map_spelled (number_in ts) (spelled_clause (meant_clause (map_spelled (term_at ts) c))) ≡ c
+  meant_again c are = ap (map_spelled (number_in ts)) (clause_spelled (map_spelled (term_at ts) c)) ∙ clause_again c are
 
-  clause_again : (c : Clause ℕ) → HasNumbersOf (length ts) c → map_clause (number_in ts) (map_clause (term_at ts) c) ≡ c
-  clause_again c are =
-      let hypotheses = facts_again c.hypotheses (all_first (λ f. AllByRecursion (IsNumberOf (length ts)) (terms_of f)) c.hypotheses (c.conclusion ∷ []) are) in
-      let conclusion = fact_again c.conclusion (all_second (λ f. AllByRecursion (IsNumberOf (length ts)) (terms_of f)) c.hypotheses (c.conclusion ∷ []) are).0 in
-      λ i. record { hypotheses = hypotheses i; diffs = c.diffs; conclusion = conclusion i }
-
-  clauses_again : (cs : List (Clause ℕ)) → AllByRecursion (HasNumbersOf (length ts)) cs → map (map_clause (number_in ts)) (map (map_clause (term_at ts)) cs) ≡ cs
-  clauses_again cs are = mapped_back (map_clause (number_in ts)) (map_clause (term_at ts)) cs (all_weaker (HasNumbersOf (length ts)) (λ c. map_clause (number_in ts) (map_clause (term_at ts) c) ≡ c) clause_again cs are)
+  clauses_again : (cs : List (SpelledClause ℕ)) → AllByRecursion (HasNumbersOf (length ts)) cs → map (λ c. map_spelled (number_in ts) (spelled_clause c)) (map (λ c. meant_clause (map_spelled (term_at ts) c)) cs) ≡ cs
+  clauses_again [] are = refl
+  clauses_again (c ∷ cs) are = let first = meant_again c are.0 in let others = clauses_again cs are.1 in λ i. first i ∷ others i
 
 pub ordered_again : (c : NodeCertificate) → IsInOrder c → with_nodes (without_nodes c) ≡ c
 ordered_again c order =
@@ -139,11 +140,11 @@ ordered_again c order =
     let counts : Counts ts = subst Counts (sym own) (all_count [] c.nodes counts_none order.nodes) in
     let as_long : length ts ≡ length c.nodes = ap length own ∙ own_length [] c.nodes in
     let nodes : map (node_of ts) ts ≡ c.nodes = subst (λ us. map (node_of us) us ≡ c.nodes) (sym own) (nodes_again [] c.nodes counts_none order.nodes) in
-    let clauses : map (map_clause (number_in ts)) (map (map_clause (term_at ts)) c.clauses) ≡ c.clauses = clauses_again ts counts c.clauses (subst (λ m. AllByRecursion (HasNumbersOf m) c.clauses) (sym as_long) order.clauses) in
+    let clauses : map (λ d. map_spelled (number_in ts) (spelled_clause d)) (map (λ d. meant_clause (map_spelled (term_at ts) d)) c.clauses) ≡ c.clauses = clauses_again ts counts c.clauses (subst (λ m. AllByRecursion (HasNumbersOf m) c.clauses) (sym as_long) order.clauses) in
     let cs = (without_nodes c).clauses in
     let walked = order.walked in
     let all_nodes : map (node_of (table cs)) (table cs) ≡ c.nodes = ap (λ us. map (node_of us) us) walked ∙ nodes in
-    let all_clauses : map (map_clause (number_in (table cs))) cs ≡ c.clauses = ap (λ us. map (map_clause (number_in us)) cs) walked ∙ clauses in
+    let all_clauses : map (λ d. map_spelled (number_in (table cs)) (spelled_clause d)) cs ≡ c.clauses = ap (λ us. map (λ d. map_spelled (number_in us) (spelled_clause d)) cs) walked ∙ clauses in
     λ i. record { nodes = all_nodes i; clauses = all_clauses i; rows = c.rows; goals = c.goals }
 
 -- And what is made of a certificate stands in order.
@@ -190,25 +191,60 @@ made_in_order all before (t ∷ ts) whole first apart differ =
     )
 
 module _ (ts : List Term) where
+  numbers_stand : (us : List Term) → AllByRecursion (Has ts) us → AllByRecursion (IsNumberOf (length ts)) (map (number_in ts) us)
+  numbers_stand us stand = subst (λ vs. AllByRecursion (IsNumberOf (length ts)) (map (number_in vs) us)) (append-nil ts) (numbers_before ts [] us stand)
+
   fact_numbers : (f : Fact Term) → AllByRecursion (Has ts) (terms_of f) → AllByRecursion (IsNumberOf (length ts)) (terms_of (map_fact (number_in ts) f))
-  fact_numbers f stand = subst (AllByRecursion (IsNumberOf (length ts))) (sym (terms_of-map (number_in ts) f)) (subst (λ us. AllByRecursion (IsNumberOf (length ts)) (map (number_in us) (terms_of f))) (append-nil ts) (numbers_before ts [] (terms_of f) stand))
+  fact_numbers f stand = subst (AllByRecursion (IsNumberOf (length ts))) (sym (terms_of-map (number_in ts) f)) (numbers_stand (terms_of f) stand)
 
-  facts_numbers : (fs : List (Fact Term)) (g : Fact Term) → AllByRecursion (λ f. AllByRecursion (Has ts) (terms_of f)) (fs ++ (g ∷ [])) → AllByRecursion (λ f. AllByRecursion (IsNumberOf (length ts)) (terms_of f)) (map (map_fact (number_in ts)) fs ++ (map_fact (number_in ts) g ∷ []))
-  facts_numbers [] g stand = (fact_numbers g stand.0, tt)
-  facts_numbers (f ∷ fs) g stand = (fact_numbers f stand.0, facts_numbers fs g stand.1)
+  facts_numbers : (fs : List (Fact Term)) → AllByRecursion (λ f. AllByRecursion (Has ts) (terms_of f)) fs → AllByRecursion (λ f. AllByRecursion (IsNumberOf (length ts)) (terms_of f)) (map (map_fact (number_in ts)) fs)
+  facts_numbers [] stand = tt
+  facts_numbers (f ∷ fs) stand = (fact_numbers f stand.0, facts_numbers fs stand.1)
 
-  clauses_numbers : (cs : List (Clause Term)) → AllByRecursion (λ c. AllByRecursion (λ f. AllByRecursion (Has ts) (terms_of f)) (facts_in_order c)) cs → AllByRecursion (HasNumbersOf (length ts)) (map (map_clause (number_in ts)) cs)
+  lefts_numbers : (ds : List (SidesOf Term)) → AllByRecursion (λ s. AllByRecursion (Has ts) s.left) ds → AllByRecursion (λ s. AllByRecursion (IsNumberOf (length ts)) s.left) (map (map_sides (number_in ts)) ds)
+  lefts_numbers [] stand = tt
+  lefts_numbers (d ∷ ds) stand = (numbers_stand d.left stand.0, lefts_numbers ds stand.1)
+
+  rights_numbers : (ds : List (SidesOf Term)) → AllByRecursion (λ s. AllByRecursion (Has ts) s.right) ds → AllByRecursion (λ s. AllByRecursion (IsNumberOf (length ts)) s.right) (map (map_sides (number_in ts)) ds)
+  rights_numbers [] stand = tt
+  rights_numbers (d ∷ ds) stand = (numbers_stand d.right stand.0, rights_numbers ds stand.1)
+
+  clause_numbers : (c : SpelledClause Term) → AllByRecursion (Has ts) (spelled_terms c) → HasNumbersOf (length ts) (map_spelled (number_in ts) c)
+  clause_numbers c stand =
+      let parts = of_parts (Has ts) c stand in
+      with_parts (IsNumberOf (length ts)) (map_spelled (number_in ts) c) record {
+        hypotheses = facts_numbers c.hypotheses parts.hypotheses;
+        left = lefts_numbers c.diffs parts.left;
+        right = rights_numbers c.diffs parts.right;
+        conclusion = fact_numbers c.conclusion parts.conclusion;
+      }
+
+  clauses_numbers : (cs : List (Clause Term)) → AllByRecursion (λ c. AllByRecursion (Has ts) (spelled_terms (spelled_clause c))) cs → AllByRecursion (HasNumbersOf (length ts)) (map (λ c. map_spelled (number_in ts) (spelled_clause c)) cs)
   clauses_numbers [] stand = tt
-  clauses_numbers (c ∷ cs) stand = (facts_numbers c.hypotheses c.conclusion stand.0, clauses_numbers cs stand.1)
+  clauses_numbers (c ∷ cs) stand = (clause_numbers (spelled_clause c) stand.0, clauses_numbers cs stand.1)
+
+-- the clauses that are meant by numbers are spelled as those of which the numbers were made
+spelled_again : (ts : List Term) (cs : List (Clause Term)) → AllByRecursion (λ c. AllByRecursion (Has ts) (spelled_terms (spelled_clause c))) cs
+    → terms_in_order (map (λ s. meant_clause (map_spelled (term_at ts) s)) (map (λ c. map_spelled (number_in ts) (spelled_clause c)) cs)) ≡ terms_in_order cs
+spelled_again ts [] stand = refl
+spelled_again ts (c ∷ cs) stand =
+    let s = map_spelled (term_at ts) (map_spelled (number_in ts) (spelled_clause c)) in
+    let first : spelled_terms (spelled_clause (meant_clause s)) ≡ spelled_terms (spelled_clause c) = ap spelled_terms (clause_spelled s ∙ by_numbers_back ts c stand.0) in
+    let others = spelled_again ts cs stand.1 in
+    λ i. first i ++ others i
 
 pub with_nodes_ordered : (c : Certificate) → IsInOrder (with_nodes c)
 with_nodes_ordered c =
     let ts = table c.clauses in
+    let numbered = map (λ d. map_spelled (number_in ts) (spelled_clause d)) c.clauses in
     let as_long : length (map (node_of ts) ts) ≡ length ts = length-map ts (node_of ts) in
+    let back = table_back c.clauses in
+    let meant : terms_in_order (map (λ s. meant_clause (map_spelled (term_at (terms_from [] (map (node_of ts) ts))) s)) numbered) ≡ terms_in_order c.clauses =
+    ap (λ us. terms_in_order (map (λ s. meant_clause (map_spelled (term_at us) s)) numbered)) back ∙ spelled_again ts c.clauses (terms_stand c.clauses) in
     record {
       nodes = made_in_order ts [] ts refl (table_first c.clauses) (apart_nothing ts) (table_distinct c.clauses);
-      clauses = subst (λ m. AllByRecursion (HasNumbersOf m) (map (map_clause (number_in ts)) c.clauses)) (sym as_long) (clauses_numbers ts c.clauses (terms_stand c.clauses));
-      walked = ap (λ d. table d.clauses) (certificate_back c) ∙ sym (table_back c.clauses);
+      clauses = subst (λ m. AllByRecursion (HasNumbersOf m) numbered) (sym as_long) (clauses_numbers ts c.clauses (terms_stand c.clauses));
+      walked = ap (λ us. distinct same_term (flat_map walk us)) meant ∙ sym back;
     }
 
 pub ordered_decides : (c : NodeCertificate) → IsInOrder c ↔ (with_nodes (without_nodes c) ≡ c)

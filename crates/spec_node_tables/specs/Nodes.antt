@@ -1,10 +1,14 @@
 -- Certificates by numbers: a table of nodes, and clauses that have numbers for terms.
 use Rattle.std.specs.Prelude.{ℕ, List, [], ◌∷◌, ◌++◌, map, unwrap_or}
+use Rattle.std.specs.List.{AllByRecursion}
 use Rattle.spec_trees.specs.Tree.{Leaf, Node, node, items_of}
 use Rattle.spec_calculus.specs.Points.{numbered}
 use Rattle.spec_terms.specs.Term.{Sym, Term}
-use Rattle.spec_clauses.specs.Fact.{Clause, map_clause}
+use Rattle.spec_clauses.specs.Diff.{sides, side_slots}
+use Rattle.spec_clauses.specs.Fact.{Clause}
 use Rattle.spec_certificates.specs.Certificate.{Certificate}
+use Rattle.spec_certificate_text.specs.OfProtocol.{IsOwnShort}
+use Rattle.spec_certificate_text.specs.Sides.{SpelledClause, spelled_clause, meant_clause, map_spelled}
 use Rattle.spec_node_tables.specs.Table.{table, number_in}
 
 -- A node of a table: a variable, or a symbol over the numbers of its arguments, which stand before it.
@@ -15,7 +19,7 @@ pub data TableNode : Type 0 where
 -- a certificate whose terms are numbers of nodes, from 1
 pub record NodeCertificate : Type 0 where
   pub nodes : List TableNode
-  pub clauses : List (Clause ℕ)
+  pub clauses : List (SpelledClause ℕ)
   pub rows : List (List ℕ)
   pub goals : List (List ℕ)
 
@@ -30,7 +34,7 @@ node_of ts (Node f arguments) = Over f (map (number_in ts) (items_of arguments))
 abbrev pub with_nodes : Certificate → NodeCertificate
 with_nodes c = let ts = table c.clauses in record {
   nodes = map (node_of ts) ts;
-  clauses = map (map_clause (number_in ts)) c.clauses;
+  clauses = map (λ c. map_spelled (number_in ts) (spelled_clause c)) c.clauses;
   rows = c.rows;
   goals = c.goals;
 }
@@ -54,7 +58,11 @@ terms_from ts (n ∷ ns) = terms_from (ts ++ (term_of ts n ∷ [])) ns
 -- the certificate that is meant
 abbrev pub without_nodes : NodeCertificate → Certificate
 without_nodes c = let ts = terms_from [] c.nodes in record {
-  clauses = map (map_clause (term_at ts)) c.clauses;
+  clauses = map (λ c. meant_clause (map_spelled (term_at ts) c)) c.clauses;
   rows = c.rows;
   goals = c.goals;
 }
+
+-- the clause's variables in its constraints are those that a text spells as such
+abbrev pub HasShortDiffs : Clause Term → Type 0
+HasShortDiffs c = AllByRecursion (λ d. AllByRecursion IsOwnShort (side_slots (sides d))) c.diffs

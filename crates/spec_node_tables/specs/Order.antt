@@ -2,8 +2,9 @@
 use Rattle.std.specs.Prelude.{◌≡◌, ℕ, ◌≤◌, false, List, [], ◌∷◌, ◌++◌, length}
 use Rattle.std.specs.List.{AllByRecursion}
 use Rattle.spec_terms.specs.Term.{Term}
-use Rattle.spec_clauses.specs.Fact.{Clause, same_term, terms_of}
-use Rattle.spec_node_tables.specs.Table.{table}
+use Rattle.spec_clauses.specs.Fact.{same_term}
+use Rattle.spec_certificate_text.specs.Sides.{SpelledClause}
+use Rattle.spec_node_tables.specs.Table.{spelled_terms, table}
 use Rattle.spec_node_tables.specs.Nodes.{TableNode, NodeCertificate, term_of, terms_from, without_nodes}
 use Rattle.spec_node_tables.specs.Text.{node_numbers}
 
@@ -20,8 +21,8 @@ StandInOrder before (n ∷ ns) =
     × StandInOrder (before ++ (term_of before n ∷ [])) ns
 
 -- the numbers that a clause has for terms are of nodes
-abbrev pub HasNumbersOf : ℕ → Clause ℕ → Type 0
-HasNumbersOf most c = AllByRecursion (λ f. AllByRecursion (IsNumberOf most) (terms_of f)) (c.hypotheses ++ (c.conclusion ∷ []))
+abbrev pub HasNumbersOf : ℕ → SpelledClause ℕ → Type 0
+HasNumbersOf most c = AllByRecursion (IsNumberOf most) (spelled_terms c)
 
 -- its nodes stand in order, its clauses have numbers of nodes, and the walk through the clauses that are meant completes just these nodes
 pub record IsInOrder (c : NodeCertificate) : Type 0 where

@@ -3,9 +3,10 @@
 use Rattle.std.specs.Prelude.{ℕ, suc, cond, List, [], ◌∷◌, ◌++◌, flat_map}
 use Rattle.spec_trees.specs.Tree.{Trees, Leaf, Node, none, more, items_of}
 use Rattle.spec_terms.specs.Term.{Sym, Term}
-use Rattle.spec_clauses.specs.Fact.{Fact, Clause, terms_of, same_term}
+use Rattle.spec_clauses.specs.Fact.{Clause, terms_of, same_term}
 use Rattle.spec_clauses.specs.Inclusion.{Has}
 use Rattle.spec_clauses.specs.Norm.{distinct}
+use Rattle.spec_certificate_text.specs.Sides.{SpelledClause, spelled_clause, sides_in_order}
 
 -- The walk through a term and through a row of terms: from left to right, the arguments before the term that they stand in.
 abbrev mutual
@@ -17,13 +18,13 @@ abbrev mutual
   walk_row none = []
   walk_row (more t ts) = walk t ++ walk_row ts
 
--- the facts of a clause as they are written: the hypotheses in order, and then the conclusion
-abbrev pub facts_in_order : Clause Term → List (Fact Term)
-facts_in_order c = c.hypotheses ++ (c.conclusion ∷ [])
+-- the terms of a clause as they are written: of the hypotheses in order, of the constraints, and then of the conclusion
+abbrev pub spelled_terms : {X : Type 0} → SpelledClause X → List X
+spelled_terms c = flat_map terms_of c.hypotheses ++ (flat_map sides_in_order c.diffs ++ terms_of c.conclusion)
 
 -- the terms of clauses as they are written
 abbrev pub terms_in_order : List (Clause Term) → List Term
-terms_in_order cs = flat_map terms_of (flat_map facts_in_order cs)
+terms_in_order cs = flat_map (λ c. spelled_terms (spelled_clause c)) cs
 
 -- The table: of what the walk through all clauses completes, each term the first time.
 abbrev pub table : List (Clause Term) → List Term

@@ -4,9 +4,10 @@ use Rattle.std.specs.Prelude.{ℕ, List, [], ◌∷◌, ◌++◌, codes}
 use Rattle.std.specs.Fmt.{decimal}
 use Rattle.spec_calculus.specs.Syntax.{Declared, Protocol}
 use Rattle.spec_terms.specs.Term.{Sym, Ctor, Data, Tuple, Free, Point, Attacker}
-use Rattle.spec_clauses.specs.Fact.{Fact, Att, Mess, Tab, Ev, Mev, Bad, Clause}
+use Rattle.spec_clauses.specs.Fact.{Fact, Att, Mess, Tab, Ev, Mev, Bad}
 use Rattle.spec_certificates.specs.Certificate.{Certificate}
 use Rattle.spec_certificate_text.specs.Loose.{Head, Applied, Tupled, Made, Attackers}
+use Rattle.spec_certificate_text.specs.Sides.{variable_word, SidesOf, SpelledClause}
 use Rattle.spec_certificate_text.specs.Words.{declared_word, symbol_word}
 use Rattle.spec_certificate_text.specs.Text.{phase_text, numbers_text, row_lines}
 use Rattle.spec_node_tables.specs.Nodes.{TableNode, Variable, Over, NodeCertificate, with_nodes}
@@ -47,22 +48,36 @@ module _ {X : Type 0} (one : X → List ℕ → List ℕ) (P : Protocol) where
   fact_over (Mev e ts) rest = codes "mev(" ++ event_over e ts (41 ∷ rest)
   fact_over (Bad ts) rest = codes "bad(" ++ terms_text ts (41 ∷ rest)
 
-  -- hypotheses behind the first, a comma and a space before each, and a space behind the last
-  abbrev pub later_hypotheses : List (Fact X) → List ℕ → List ℕ
-  later_hypotheses [] rest = 32 ∷ rest
-  later_hypotheses (h ∷ hs) rest = 44 ∷ 32 ∷ fact_over h (later_hypotheses hs rest)
+  -- a constraint: its left sides and its right sides, a comma between each two
+  abbrev pub sides_over : SidesOf X → List ℕ → List ℕ
+  sides_over d rest = codes "diff(" ++ terms_text d.left (59 ∷ terms_text d.right (41 ∷ rest))
 
-  -- hypotheses; of none, nothing
-  abbrev pub hypotheses_over : List (Fact X) → List ℕ → List ℕ
-  hypotheses_over [] rest = rest
-  hypotheses_over (h ∷ hs) rest = fact_over h (later_hypotheses hs rest)
+  -- constraints behind a hypothesis or a constraint, a comma and a space before each, and a space behind the last
+  abbrev pub later_diffs : List (SidesOf X) → List ℕ → List ℕ
+  later_diffs [] rest = 32 ∷ rest
+  later_diffs (d ∷ ds) rest = 44 ∷ 32 ∷ sides_over d (later_diffs ds rest)
 
-  -- a clause: its hypotheses, `=> `, and its conclusion; constraints aren't spelled yet
-  abbrev pub clause_over : Clause X → List ℕ → List ℕ
-  clause_over c rest = hypotheses_over c.hypotheses (61 ∷ 62 ∷ 32 ∷ fact_over c.conclusion rest)
+  -- constraints with no hypotheses before them; of none, nothing
+  abbrev pub diffs_over : List (SidesOf X) → List ℕ → List ℕ
+  diffs_over [] rest = rest
+  diffs_over (d ∷ ds) rest = sides_over d (later_diffs ds rest)
+
+  -- hypotheses behind the first, a comma and a space before each, and then the constraints
+  abbrev pub later_hypotheses : List (Fact X) → List (SidesOf X) → List ℕ → List ℕ
+  later_hypotheses [] ds rest = later_diffs ds rest
+  later_hypotheses (h ∷ hs) ds rest = 44 ∷ 32 ∷ fact_over h (later_hypotheses hs ds rest)
+
+  -- hypotheses, and then constraints
+  abbrev pub hypotheses_over : List (Fact X) → List (SidesOf X) → List ℕ → List ℕ
+  hypotheses_over [] ds rest = diffs_over ds rest
+  hypotheses_over (h ∷ hs) ds rest = fact_over h (later_hypotheses hs ds rest)
+
+  -- a clause: its hypotheses, its constraints, `=> `, and its conclusion
+  abbrev pub clause_over : SpelledClause X → List ℕ → List ℕ
+  clause_over c rest = hypotheses_over c.hypotheses c.diffs (61 ∷ 62 ∷ 32 ∷ fact_over c.conclusion rest)
 
   -- `c ` and a clause on a line of its own, for each clause
-  abbrev pub clause_lines_over : List (Clause X) → List ℕ → List ℕ
+  abbrev pub clause_lines_over : List (SpelledClause X) → List ℕ → List ℕ
   clause_lines_over [] rest = rest
   clause_lines_over (c ∷ cs) rest = 99 ∷ 32 ∷ clause_over c (10 ∷ clause_lines_over cs rest)
 
@@ -79,9 +94,9 @@ symbol_head P (Free name) = Applied (symbol_word P (Free name))
 symbol_head P (Point point) = Made (symbol_word P (Point point)) (decimal point)
 symbol_head P Attacker = Attackers
 
--- the variable x is `v` and the digits of x
+-- a variable's word stands alone
 abbrev pub node_head : Protocol → TableNode → Head
-node_head P (Variable x) = Applied (118 ∷ decimal x)
+node_head P (Variable x) = Applied (variable_word x)
 node_head P (Over f ns) = symbol_head P f
 
 abbrev pub head_text : Head → List ℕ → List ℕ

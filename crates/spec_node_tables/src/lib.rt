@@ -1,7 +1,8 @@
 //! Certificates by a table of nodes: each distinct term of the clauses is written once, and the clauses name terms by numbers.
 //!
 //! The table has the terms that a walk through the clauses completes, each the first time: the clauses in order, in each
-//! the hypotheses in order and then the conclusion, terms from left to right, arguments before the term that they stand in.
+//! the hypotheses in order, the constraints and then the conclusion, terms from left to right, arguments before the term that
+//! they stand in.
 //! The text is lines: `cert 2`, the nodes behind `n `, the clauses behind `c ` with numbers for terms, the rows as ever, and
 //! `end`.
 //!
@@ -22,8 +23,9 @@ ghost use Rattle.spec_certificates.specs.Certificate.{Certificate};
 ghost use Rattle.spec_certificate_text.specs.OfProtocol.{IsShort, HasNames, IsCertificateOf};
 ghost use Rattle.spec_certificate_text.specs.Text.{term_text, clause_text, certificate_text};
 ghost use Rattle.spec_certificate_text.specs.Examples.{answering, v0, v1, c};
+ghost use Rattle.spec_certificate_text.specs.Sides.{spelled_clause};
 ghost use Rattle.spec_node_tables.specs.Table.{terms_in_order, table, number_in, arguments_of, IsSubterm};
-ghost use Rattle.spec_node_tables.specs.Nodes.{NodeCertificate, with_nodes, without_nodes};
+ghost use Rattle.spec_node_tables.specs.Nodes.{NodeCertificate, with_nodes, without_nodes, HasShortDiffs};
 ghost use Rattle.spec_node_tables.specs.Text.{clause_over, numbered_text, text_with_nodes};
 ghost use Rattle.spec_node_tables.specs.OfProtocol.{IsNodeCertificateOf};
 ghost use Rattle.spec_node_tables.specs.Order.{IsInOrder};
@@ -56,16 +58,18 @@ pub fn tables_are_of_the_clauses()
         numbered (table cs) (number_in (table cs) t) ≡ Some t }
 {}
 
-/// A certificate by numbers means the certificate that it was made of.
+/// A certificate by numbers means the certificate that it was made of, where the clauses' variables in constraints are those
+/// that a text spells as such.
 pub fn numbers_give_certificates_back()
-    ensures { (c : Certificate) → without_nodes (with_nodes c) ≡ c }
+    ensures { (c : Certificate) → AllByRecursion HasShortDiffs c.clauses →
+        without_nodes (with_nodes c) ≡ c }
 {}
 
 /// Clauses are written alike in both formats, but for their terms: where each term has its own text, the clause's text is the
 /// one without a table.
 pub fn clauses_are_written_alike()
     ensures { (P : Protocol) (c : Clause Term) (rest : List ℕ) →
-        clause_text P c rest ≡ clause_over (term_text P) P c rest }
+        clause_text P c rest ≡ clause_over (term_text P) P (spelled_clause c) rest }
 {}
 
 /// Certificates by numbers are told apart by their texts, whatever follows: none is the front of another's.

@@ -2,7 +2,7 @@
 use Rattle.std.proofs.Common.{◌≡◌, ℕ, ◌+◌, Option, Some, None, List, [], ◌∷◌, map, refl, ap, sym, subst}
 use Rattle.std.specs.Option.{IfSome, option_map_or}
 use Rattle.std.specs.List.{AllByRecursion, enumerate_from}
-use Rattle.spec_trees.specs.Tree.{Trees, Leaf, Node, none, more, items_of}
+use Rattle.spec_trees.specs.Tree.{Tree, Trees, Leaf, Node, none, more, items_of}
 use Rattle.spec_trees.specs.Leaves.{leaves, row_leaves}
 use Rattle.spec_calculus.specs.Syntax.{Name, Head, Builds, Calls, Expression, Rule, Ruled, Destructor, Protocol}
 use Rattle.spec_calculus.specs.Syntax as calculus
@@ -18,19 +18,21 @@ use Rattle.spec_well_formed.specs.WellFormed.{IsRuleOver, IsWellScoped}
 use Rattle.spec_terms.specs.Term.{Sym}
 use Rattle.spec_clauses.proofs.Lists.{all_append}
 use Rattle.spec_translation.specs.Conversion as conversion
-use Rattle.spec_translation.specs.Conversion.{symbol_over, rule_leaf, term_in, rule_term}
-use Rattle.spec_translation.specs.Visit.{Visit}
+use Rattle.spec_translation.specs.Conversion.{symbol_over, rule_leaf, rule_term}
 use Rattle.spec_translation.specs.Applied.{width, row_width, ruled_term, ruled_row, ruled_arguments, row_arguments, ruled_sides, row_sides}
 use Rattle.spec_certificate_text.specs.OfProtocol.{IsSymbolOf}
-use Rattle.spec_readable_verdicts.proofs.Facts.{IsTermOver, AreTermsOver}
-use Rattle.spec_readable_verdicts.proofs.Conversion.{root_over, term_over, terms_over}
+use Rattle.spec_readable_verdicts.proofs.Facts.{IsTreeOver, IsTermOver}
+use Rattle.spec_readable_verdicts.proofs.Conversion.{root_over, term_over}
 use Rattle.spec_readable_verdicts.proofs.Given.{rule_leaf_over}
-use Rattle.spec_readable_verdicts.proofs.Scopes.{IsVisitOver, term_in_over}
 
 -- each tree of a row passes the test where the row does
-items_over : (Q : Sym → ℕ → Type 0) (ts : Trees ℕ Sym) → EachSymbolInRow Q ts → AllByRecursion (EachSymbol Q) (items_of ts)
+items_over : {X : Type 0} (Q : Sym → ℕ → Type 0) (ts : Trees X Sym) → EachSymbolInRow Q ts → AllByRecursion (EachSymbol Q) (items_of ts)
 items_over Q none h = tt
 items_over Q (more t ts) h = (h.0, items_over Q ts h.1)
+
+-- a term of a rule
+pub rule_term_over : (P : Protocol) (scoped : IsWellScoped P) (base : ℕ) (t : calculus.Term) → below.IsTermOver (signature_of P) IsVariable t → IsTermOver P (rule_term P base t)
+rule_term_over P scoped base t h = term_over P (rule_leaf base) IsVariable (rule_leaf_over P scoped base) t h
 
 module _ (P : Protocol) (scoped : IsWellScoped P) (bound : List Name) where
   abbrev signature : Signature
@@ -91,23 +93,26 @@ module _ (P : Protocol) (scoped : IsWellScoped P) (bound : List Name) where
         (λ c below. joined_below part parts c below others) (choices P part)
         (choices_below part (each-first (IsTermBelow signature bound) (leaves part) (row_leaves parts) terms) heads.0))
 
-  module _ (above : ℕ) (v : Visit) (is : IsVisitOver P bound above v) where
-    abbrev row_term : ℕ → Trees calculus.Term (Head Rule) → Trees ℕ Sym
-    row_term base parts = ruled_row P (term_in P v.scope) (rule_term P) base parts
+  -- two readings, of terms of the process and of rules, as trees over the protocol
+  module _ {X : Type 0} (term_of : calculus.Term → Tree X Sym) (rule_term_of : ℕ → calculus.Term → Tree X Sym) (own_over : (t : calculus.Term) → IsTermBelow signature bound t → IsTreeOver P (term_of t))
+      (rule_over : (base : ℕ) (t : calculus.Term) → below.IsTermOver signature IsVariable t → IsTreeOver P (rule_term_of base t)) where
+    abbrev row_term : ℕ → Trees calculus.Term (Head Rule) → Trees X Sym
+    row_term base parts = ruled_row P term_of rule_term_of base parts
 
     row_count : (base : ℕ) (parts : Trees calculus.Term (Head Rule)) → row_length (row_term base parts) ≡ row_length parts
     row_count base none = refl
     row_count base (more part parts) = ap (λ n. n + 1) (row_count (base + width part) parts)
 
-    side_over : (base : ℕ) (t : calculus.Term) → below.IsTermOver signature IsVariable t → IsTermOver P (rule_term P base t)
-    side_over base t h = term_over P (rule_leaf base) IsVariable (rule_leaf_over P scoped base) t h
+    rule_terms_over : (base : ℕ) (ts : List calculus.Term) → AllByRecursion (below.IsTermOver signature IsVariable) ts → AllByRecursion (IsTreeOver P) (map (rule_term_of base) ts)
+    rule_terms_over base [] h = tt
+    rule_terms_over base (t ∷ ts) h = (rule_over base t h.0, rule_terms_over base ts h.1)
 
     -- the value
     mutual
-      pub value_over : (base : ℕ) (ruled : Ruled) → IsRuledBelow ruled → IsTermOver P (ruled_term P (term_in P v.scope) (rule_term P) base ruled)
-      value_over base (Leaf t) h = term_in_over P bound above v is t h
+      pub value_over : (base : ℕ) (ruled : Ruled) → IsRuledBelow ruled → IsTreeOver P (ruled_term P term_of rule_term_of base ruled)
+      value_over base (Leaf t) h = own_over t h
       value_over base (Node (Builds f) parts) h = (subst (IsSymbolOf P (symbol_over P (conversion.row_length parts) f)) (sym (row_count base parts)) (root_over P f parts h.0), row_over base parts h.1)
-      value_over base (Node (Calls rule) parts) h = side_over (base + row_width parts) rule.right h.0.right
+      value_over base (Node (Calls rule) parts) h = rule_over (base + row_width parts) rule.right h.0.right
 
       row_over : (base : ℕ) (parts : Trees calculus.Term (Head Rule)) → IsRuledRowBelow parts → EachSymbolInRow (IsSymbolOf P) (row_term base parts)
       row_over base none h = tt
@@ -115,27 +120,26 @@ module _ (P : Protocol) (scoped : IsWellScoped P) (bound : List Name) where
 
     -- the arguments of all destructors
     mutual
-      pub arguments_over : (base : ℕ) (ruled : Ruled) → IsRuledBelow ruled → AreTermsOver P (ruled_arguments P (term_in P v.scope) (rule_term P) base ruled)
+      pub arguments_over : (base : ℕ) (ruled : Ruled) → IsRuledBelow ruled → AllByRecursion (IsTreeOver P) (ruled_arguments P term_of rule_term_of base ruled)
       arguments_over base (Leaf t) h = tt
       arguments_over base (Node (Builds f) parts) h = row_arguments_over base parts h.1
       arguments_over base (Node (Calls rule) parts) h =
-          all_append (IsTermOver P) (row_arguments P (term_in P v.scope) (rule_term P) base parts) (items_of (row_term base parts)) (row_arguments_over base parts h.1) (items_over (IsSymbolOf P) (row_term base parts) (row_over base parts h.1))
+          all_append (IsTreeOver P) (row_arguments P term_of rule_term_of base parts) (items_of (row_term base parts)) (row_arguments_over base parts h.1) (items_over (IsSymbolOf P) (row_term base parts) (row_over base parts h.1))
 
-      row_arguments_over : (base : ℕ) (parts : Trees calculus.Term (Head Rule)) → IsRuledRowBelow parts → AreTermsOver P (row_arguments P (term_in P v.scope) (rule_term P) base parts)
+      row_arguments_over : (base : ℕ) (parts : Trees calculus.Term (Head Rule)) → IsRuledRowBelow parts → AllByRecursion (IsTreeOver P) (row_arguments P term_of rule_term_of base parts)
       row_arguments_over base none h = tt
       row_arguments_over base (more part parts) h =
-          all_append (IsTermOver P) (ruled_arguments P (term_in P v.scope) (rule_term P) base part) (row_arguments P (term_in P v.scope) (rule_term P) (base + width part) parts) (arguments_over base part h.0) (row_arguments_over (base + width part) parts h.1)
+          all_append (IsTreeOver P) (ruled_arguments P term_of rule_term_of base part) (row_arguments P term_of rule_term_of (base + width part) parts) (arguments_over base part h.0) (row_arguments_over (base + width part) parts h.1)
 
     -- and their rules' left sides
     mutual
-      pub sides_over : (base : ℕ) (ruled : Ruled) → IsRuledBelow ruled → AreTermsOver P (ruled_sides P (term_in P v.scope) (rule_term P) base ruled)
+      pub sides_over : (base : ℕ) (ruled : Ruled) → IsRuledBelow ruled → AllByRecursion (IsTreeOver P) (ruled_sides P term_of rule_term_of base ruled)
       sides_over base (Leaf t) h = tt
       sides_over base (Node (Builds f) parts) h = row_sides_over base parts h.1
       sides_over base (Node (Calls rule) parts) h =
-          all_append (IsTermOver P) (row_sides P (term_in P v.scope) (rule_term P) base parts) (map (rule_term P (base + row_width parts)) rule.left) (row_sides_over base parts h.1)
-          (terms_over P (rule_leaf (base + row_width parts)) IsVariable (rule_leaf_over P scoped (base + row_width parts)) rule.left h.0.left)
+          all_append (IsTreeOver P) (row_sides P term_of rule_term_of base parts) (map (rule_term_of (base + row_width parts)) rule.left) (row_sides_over base parts h.1) (rule_terms_over (base + row_width parts) rule.left h.0.left)
 
-      row_sides_over : (base : ℕ) (parts : Trees calculus.Term (Head Rule)) → IsRuledRowBelow parts → AreTermsOver P (row_sides P (term_in P v.scope) (rule_term P) base parts)
+      row_sides_over : (base : ℕ) (parts : Trees calculus.Term (Head Rule)) → IsRuledRowBelow parts → AllByRecursion (IsTreeOver P) (row_sides P term_of rule_term_of base parts)
       row_sides_over base none h = tt
       row_sides_over base (more part parts) h =
-          all_append (IsTermOver P) (ruled_sides P (term_in P v.scope) (rule_term P) base part) (row_sides P (term_in P v.scope) (rule_term P) (base + width part) parts) (sides_over base part h.0) (row_sides_over (base + width part) parts h.1)
+          all_append (IsTreeOver P) (ruled_sides P term_of rule_term_of base part) (row_sides P term_of rule_term_of (base + width part) parts) (sides_over base part h.0) (row_sides_over (base + width part) parts h.1)

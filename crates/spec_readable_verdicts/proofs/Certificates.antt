@@ -35,6 +35,7 @@ use Rattle.spec_certificate_text.specs.OfProtocol as text
 use Rattle.spec_certificate_text.specs.Readable.{MayStand, IsHypothesisOf, IsConclusionOf, IsReadable, IsRow}
 use Rattle.spec_readable_verdicts.proofs.Facts.{IsTermOver, AreTermsOver, IsFactOver}
 use Rattle.spec_readable_verdicts.proofs.Resolution.{IsKept, are_norms}
+use Rattle.spec_readable_verdicts.proofs.Constraints.{bound_below, diffs_readable}
 
 -- the two counts of a row are one
 row_items : (ts : Trees ℕ Sym) → row_length ts ≡ length (items_of ts)
@@ -84,13 +85,21 @@ module _ (P : Protocol) (n : ℕ) (small : n ≤ most_symbols) where
       let both = and_true (may_be_supposed f) (list_all may_be_supposed fs) e in
       (hypothesis_of f h.0 b.0 (omega (arith, s)) both.0, hypotheses_of fs h.1 b.1 (omega (arith, s)) both.1)
 
+-- numbers of variables below a number
+numbers_below : (n : ℕ) (xs : List ℕ) → AreBelow n (map Leaf xs) → AllByRecursion (λ x. x < n) xs
+numbers_below n [] b = tt
+numbers_below n (x ∷ xs) b = (b.0.0, numbers_below n xs b.1)
+
 -- A clause that is kept, its own norm and within the limit may stand in a text.
 pub readable : (P : Protocol) (c : Clause Term) → IsKept P c → IsNormal c → IsWithinLimit c → IsReadable P c
 readable P c kept normal small =
     let n = clause_size c in
-    let below = all-from_flat_map (IsBelow n) terms_of (facts_of c) (all_first (IsBelow n) (clause_terms c) (map Leaf (constrained_variables c)) (norm-below c c normal.own)) in record {
+    let variables = map Leaf (constrained_variables c) in
+    let all = norm-below c c normal.own in
+    let constrained = numbers_below n (constrained_variables c) (all_second (IsBelow n) (clause_terms c) variables all) in
+    let below = all-from_flat_map (IsBelow n) terms_of (facts_of c) (all_first (IsBelow n) (clause_terms c) variables all) in record {
       hypotheses = hypotheses_of P n small c.hypotheses kept.over.hypotheses below.1 (omega (arith, small)) kept.placed.hypotheses;
-      diffs = kept.none;
+      diffs = diffs_readable P n small c.diffs kept.over.diffs constrained (bound_below c normal.own) (omega arith);
       conclusion = conclusion_of P n small c.conclusion kept.over.conclusion below.0 (omega (arith, small)) kept.placed.conclusion;
     }
 

@@ -13,14 +13,14 @@ use Rattle.spec_well_formed.specs.Signature.{signature_of}
 use Rattle.spec_well_formed.specs.Terms.{IsPatternBelow, IsRowBelow, IsConditionBelow, IsExpressionBelow, HasArity, bound_by, bound_by_row}
 use Rattle.spec_well_formed.specs.WellFormed.{IsWellScoped}
 use Rattle.spec_terms.specs.Term.{Subst}
-use Rattle.spec_translation.specs.Conversion.{Fresh, pattern_term}
+use Rattle.spec_translation.specs.Conversion.{term_in, rule_term, Fresh, pattern_term}
 use Rattle.spec_translation.specs.Visit.{Visit, after_entry}
 use Rattle.spec_translation.specs.Choice.{Choice, choice_under, IsUnified, with_pattern, ruled_choice, GoesOn, EachGoesOn, AllGoOn, left_of, right_of, entry_choice, EntryGoesOn}
 use Rattle.spec_certificate_text.specs.OfProtocol.{IsTable, IsSymbolOf}
 use Rattle.spec_readable_verdicts.proofs.Over.{cleaned, cleaned_under, cleaned-bind, cleaned-binds, most_general-over}
 use Rattle.spec_readable_verdicts.proofs.Symbols.{symbol}
 use Rattle.spec_readable_verdicts.proofs.Facts.{IsTermOver, AreTermsOver, IsFactOver}
-use Rattle.spec_readable_verdicts.proofs.Applied.{IsRuledBelow, choices_below, value_over, arguments_over, sides_over}
+use Rattle.spec_readable_verdicts.proofs.Applied.{IsRuledBelow, choices_below, rule_term_over, value_over, arguments_over, sides_over}
 use Rattle.spec_readable_verdicts.proofs.Scopes.{IsVisitOver, term_in_over, pattern_over, row_over, scope_with, found_with, visit_over-under}
 
 module _ (P : Protocol) (scoped : IsWellScoped P) where
@@ -55,6 +55,7 @@ module _ (P : Protocol) (scoped : IsWellScoped P) where
       scope = scope_with P bound above v is at pattern;
       found = found_with P bound above v is at pattern;
       hypotheses = is.hypotheses;
+      diffs = is.diffs;
       messages = is.messages;
       sessions = is.sessions;
       count = is.count;
@@ -69,9 +70,9 @@ module _ (P : Protocol) (scoped : IsWellScoped P) where
     each_goes_over (ruled ∷ rs) below outs (out, others, r, rest, made) =
         let c = ruled_choice P v pattern ruled r.base r.at in
         let over : IsChoiceOver c = record {
-          arguments = arguments_over P scoped bound above v is r.base ruled below.0;
-          sides = sides_over P scoped bound above v is r.base ruled below.0;
-          value = value_over P scoped bound above v is r.base ruled below.0;
+          arguments = arguments_over P scoped bound (term_in P v.scope) (rule_term P) (term_in_over P bound above v is) (rule_term_over P scoped) r.base ruled below.0;
+          sides = sides_over P scoped bound (term_in P v.scope) (rule_term P) (term_in_over P bound above v is) (rule_term_over P scoped) r.base ruled below.0;
+          value = value_over P scoped bound (term_in P v.scope) (rule_term P) (term_in_over P bound above v is) (rule_term_over P scoped) r.base ruled below.0;
           target = pattern_over P bound above v is r.at pattern fits;
         } in
         let first = goes_over (bound_by pattern ++ bound) above c out over (with_pattern_over r.at) r.goes_on in
@@ -94,6 +95,7 @@ module _ (P : Protocol) (scoped : IsWellScoped P) where
           scope = scope_with P bound above v is at (row_pattern patterns);
           found = found_with P bound above v is at (row_pattern patterns);
           hypotheses = all_append (IsFactOver P) v.hypotheses (Tab table terms ∷ []) is.hypotheses (record { predicate = in_table; terms = over }, tt);
+          diffs = is.diffs;
           messages = all_append (IsTermOver P) v.messages terms is.messages over;
           sessions = is.sessions;
           count = omega (arith, length-append v.messages terms, many, is.count);

@@ -1,30 +1,38 @@
--- Facts and clauses over a protocol: each symbol and each event is one of the protocol's, with its number of arguments, and so is
--- each table, and phases are the protocol's. So it stays under substitutions, in flat parts and in norms.
-use Rattle.std.proofs.Common.{◌≡◌, ℕ, true, false, cond, List, [], ◌∷◌, map, length, refl, sym, subst, arith}
-use Rattle.std.specs.Prelude.{flat_map}
+-- Facts, constraints and clauses over a protocol: each symbol and each event is one of the protocol's, with its number of arguments, and so
+-- is each table, and phases are the protocol's; a constraint has as many left sides as right sides, one at least. So it stays under
+-- substitutions, in flat parts and in norms.
+use Rattle.std.proofs.Common.{◌≡◌, ◌∙◌, ℕ, ◌<◌, true, false, cond, List, [], ◌∷◌, map, length, refl, sym, subst, arith}
+use Rattle.std.specs.Prelude.{filter, flat_map}
 use Rattle.std.specs.List.{AllByRecursion}
 use Rattle.std.proofs.lemmas.List.{length-map}
-use Rattle.spec_trees.specs.Tree.{Trees, Leaf, Node, none, more, trees, node, bind}
+use Rattle.spec_trees.specs.Tree.{Tree, Trees, Leaf, Node, none, more, trees, node, bind}
 use Rattle.spec_well_formed.specs.Terms.{row_length, EachSymbol, EachSymbolInRow}
 use Rattle.spec_calculus.specs.Syntax.{Protocol}
 use Rattle.spec_terms.specs.Term.{Sym, Term, Subst}
+use Rattle.spec_clauses.specs.Diff.{Slot, Own, Bound, Side, Diff, diff_bind, slot_under, diff_under, rebound, bound_place, numbered_diff, same_diff}
 use Rattle.spec_clauses.specs.Fact.{Fact, Att, Mess, Tab, Ev, Mev, Bad, Clause, terms_of, fact_under, clause_under, phase_of}
 use Rattle.spec_clauses.specs.Flat.{is_data, parts, row_parts, flat, flat_parts}
 use Rattle.spec_clauses.specs.Variables.{clause_variables}
-use Rattle.spec_clauses.specs.Norm.{norms, numbering, everything_known, tidied}
+use Rattle.spec_clauses.specs.Norm.{distinct, norms, numbering, is_needed, everything_known, tidied}
 use Rattle.spec_clauses.specs.Inclusion.{Has}
 use Rattle.spec_clauses.proofs.Inclusion.{Has-within, Has-map_source}
 use Rattle.spec_clauses.proofs.Lists.{all_append, all-flat_map, all_weaker}
 use Rattle.spec_clauses.proofs.Norm.{few, simplified, norm_made}
-use Rattle.spec_clauses.proofs.NormKeeps.{few-within, generalized_or}
+use Rattle.spec_clauses.proofs.NormKeeps.{within-filter, within-distinct, few-within, generalized_or}
 use Rattle.spec_clauses.proofs.NormAnswers.{norms-source}
 use Rattle.spec_translation.proofs.Goal.{all_at, all_of_each}
 use Rattle.spec_certificate_text.specs.OfProtocol.{IsEvent, IsTable, IsPhase, IsSymbolOf}
 use Rattle.spec_readable_verdicts.proofs.Over.{bind-over}
 
--- a term over the protocol's symbols
+-- a tree over the protocol's symbols: a term, or a side of a constraint
+abbrev pub IsTreeOver : {X : Type 0} → Protocol → Tree X Sym → Type 0
+IsTreeOver P t = EachSymbol (IsSymbolOf P) t
+
 abbrev pub IsTermOver : Protocol → Term → Type 0
 IsTermOver P t = EachSymbol (IsSymbolOf P) t
+
+abbrev pub IsSideOver : Protocol → Side → Type 0
+IsSideOver P t = EachSymbol (IsSymbolOf P) t
 
 abbrev pub AreTermsOver : Protocol → List Term → Type 0
 AreTermsOver P ts = AllByRecursion (IsTermOver P) ts
@@ -45,8 +53,16 @@ pub record IsFactOver (P : Protocol) (f : Fact Term) : Type 0 where
   pub predicate : HasPredicateOf P f
   pub terms : AreTermsOver P (terms_of f)
 
+-- as many left sides as right sides, one at least
+pub record IsDiffOver (P : Protocol) (d : Diff) : Type 0 where
+  pub left : AllByRecursion (IsSideOver P) d.left
+  pub right : AllByRecursion (IsSideOver P) d.right
+  pub paired : length d.left ≡ length d.right
+  pub some : 0 < length d.left
+
 pub record IsClauseOver (P : Protocol) (c : Clause Term) : Type 0 where
   pub hypotheses : AllByRecursion (IsFactOver P) c.hypotheses
+  pub diffs : AllByRecursion (IsDiffOver P) c.diffs
   pub conclusion : IsFactOver P c.conclusion
 
 row_length-trees : (ts : List Term) → row_length (trees ts) ≡ length ts
@@ -79,8 +95,47 @@ module _ (P : Protocol) where
   facts_over-under s each [] h = tt
   facts_over-under s each (f ∷ fs) h = (fact_over-under s each f h.0, facts_over-under s each fs h.1)
 
+  sides_over-bind : (f : Slot → Side) → ((k : Slot) → IsSideOver P (f k)) → (ts : List Side) → AllByRecursion (IsSideOver P) ts → AllByRecursion (IsSideOver P) (map (bind f) ts)
+  sides_over-bind f each [] h = tt
+  sides_over-bind f each (t ∷ ts) h = (bind-over (IsSymbolOf P) f each t h.0, sides_over-bind f each ts h.1)
+
+  diff_over-bind : (f : Slot → Side) → ((k : Slot) → IsSideOver P (f k)) → (d : Diff) → IsDiffOver P d → IsDiffOver P (diff_bind f d)
+  diff_over-bind f each d h = record {
+    left = sides_over-bind f each d.left h.left;
+    right = sides_over-bind f each d.right h.right;
+    paired = length-map d.left (bind f) ∙ (h.paired ∙ sym (length-map d.right (bind f)));
+    some = omega (arith, length-map d.left (bind f), h.some);
+  }
+
+  pub own_over : (t : Term) → IsTermOver P t → IsSideOver P (bind (λ x. Leaf (Own x)) t)
+  own_over t h = bind-over (IsSymbolOf P) (λ x. Leaf (Own x)) (λ x. tt) t h
+
+  slot_over-under : (s : Subst) → ((x : ℕ) → IsTermOver P (s x)) → (k : Slot) → IsSideOver P (slot_under s k)
+  slot_over-under s each (Own x) = own_over (s x) (each x)
+  slot_over-under s each (Bound i) = tt
+
+  pub diffs_over-under : (s : Subst) → ((x : ℕ) → IsTermOver P (s x)) → (ds : List Diff) → AllByRecursion (IsDiffOver P) ds → AllByRecursion (IsDiffOver P) (map (diff_under s) ds)
+  diffs_over-under s each [] h = tt
+  diffs_over-under s each (d ∷ ds) h = (diff_over-bind (slot_under s) (slot_over-under s each) d h.0, diffs_over-under s each ds h.1)
+
   pub clause_over-under : (s : Subst) → ((x : ℕ) → IsTermOver P (s x)) → (c : Clause Term) → IsClauseOver P c → IsClauseOver P (clause_under s c)
-  clause_over-under s each c h = record { hypotheses = facts_over-under s each c.hypotheses h.hypotheses; conclusion = fact_over-under s each c.conclusion h.conclusion }
+  clause_over-under s each c h = record {
+    hypotheses = facts_over-under s each c.hypotheses h.hypotheses;
+    diffs = diffs_over-under s each c.diffs h.diffs;
+    conclusion = fact_over-under s each c.conclusion h.conclusion;
+  }
+
+  -- and with bound variables numbered
+  rebound_over : (r : ℕ → ℕ) (k : Slot) → IsSideOver P (rebound r k)
+  rebound_over r (Own x) = tt
+  rebound_over r (Bound i) = tt
+
+  pub numbered_over : (d : Diff) → IsDiffOver P d → IsDiffOver P (numbered_diff d)
+  numbered_over d h = diff_over-bind (rebound (bound_place d)) (rebound_over (bound_place d)) d h
+
+  all_numbered_over : (ds : List Diff) → AllByRecursion (IsDiffOver P) ds → AllByRecursion (IsDiffOver P) (map numbered_diff ds)
+  all_numbered_over [] h = tt
+  all_numbered_over (d ∷ ds) h = (numbered_over d h.0, all_numbered_over ds h.1)
 
   -- flat parts
   mutual
@@ -111,6 +166,7 @@ module _ (P : Protocol) where
       let (f, there, same) = Has-map_source (λ f. record { hypotheses = flat_map flat c.hypotheses; diffs = c.diffs; conclusion = f }) (flat c.conclusion) part listed in
       subst (IsClauseOver P) (sym same) (record {
         hypotheses = all-flat_map (IsFactOver P) flat c.hypotheses (all_weaker (IsFactOver P) (λ g. AllByRecursion (IsFactOver P) (flat g)) flat_over c.hypotheses h.hypotheses);
+        diffs = h.diffs;
         conclusion = all_at (IsFactOver P) there.1 (flat_over c.conclusion h.conclusion);
       })
 
@@ -124,16 +180,23 @@ module _ (P : Protocol) where
   own_phase (Bad ts) h = zero_phase P
 
   everything_over : (k : ℕ) → IsPhase P k → IsClauseOver P (everything_known k)
-  everything_over k is = record { hypotheses = tt; conclusion = record { predicate = is; terms = (tt, tt) } }
+  everything_over k is = record { hypotheses = tt; diffs = tt; conclusion = record { predicate = is; terms = (tt, tt) } }
 
   simplified_over : (c : Clause Term) → IsClauseOver P c → IsClauseOver P (simplified c)
   simplified_over c h = generalized_or (few c) (IsClauseOver P) (λ x e. everything_over (phase_of c.conclusion) (own_phase c.conclusion h.conclusion.predicate)) (record {
     hypotheses = all_of_each (IsFactOver P) (few c).hypotheses (λ f there. all_at (IsFactOver P) (Has-within (few c).hypotheses c.hypotheses f (few-within c) there).1 h.hypotheses);
+    diffs = all_of_each (IsDiffOver P) (few c).diffs (λ d there. all_at (IsDiffOver P) (Has-within (filter (is_needed c) c.diffs) c.diffs d (within-filter (is_needed c) c.diffs) there).1 h.diffs);
     conclusion = h.conclusion;
   })
 
   tidied_over : (c : Clause Term) → IsClauseOver P c → IsClauseOver P (tidied c)
-  tidied_over c h = record { hypotheses = h.hypotheses; conclusion = h.conclusion }
+  tidied_over c h =
+      let numbered = map numbered_diff c.diffs in
+      let kept = distinct same_diff numbered in record {
+        hypotheses = h.hypotheses;
+        diffs = all_of_each (IsDiffOver P) kept (λ d there. all_at (IsDiffOver P) (Has-within kept numbered d (within-distinct same_diff numbered) there).1 (all_numbered_over c.diffs h.diffs));
+        conclusion = h.conclusion;
+      }
 
   pub norms_over : (c d : Clause Term) → IsClauseOver P c → Has (norms c) d → IsClauseOver P d
   norms_over c d h listed =

@@ -94,7 +94,7 @@ module _ (P : Protocol) (scoped : IsWellScoped P) where
     made = record { hypotheses = []; diffs = []; conclusion = Att 0 (free_term x.0) }
 
     go : (b : Bool) → cond b (Some made) None ≡ Some raw → IsClauseOver P raw
-    go true k = let same : made ≡ raw = cc in subst (IsClauseOver P) same (record { hypotheses = tt; conclusion = record { predicate = zero_phase P; terms = (((record { declared = x.1; there = at }, refl), tt), tt) } })
+    go true k = let same : made ≡ raw = cc in subst (IsClauseOver P) same (record { hypotheses = tt; diffs = tt; conclusion = record { predicate = zero_phase P; terms = (((record { declared = x.1; there = at }, refl), tt), tt) } })
     go false k = cc
 
   constructor_over : (phase : ℕ) → IsPhase P phase → (x : ℕ × Declared) (raw : Clause Term) → numbered P.constructors x.0 ≡ Some x.1 → constructor_applied phase x ≡ Some raw → IsClauseOver P raw
@@ -108,6 +108,7 @@ module _ (P : Protocol) (scoped : IsWellScoped P) where
     made_over : x.1.is_data ≡ false → IsClauseOver P made
     made_over plain = record {
       hypotheses = known_over P phase in_phase arguments (variables_over P 0 x.1.arity);
+      diffs = tt;
       conclusion = record {
         predicate = in_phase;
         terms = (node_over P (Ctor x.0) arguments (record { declared = x.1; there = at; data_is = plain; arity = sym (length-variables 0 x.1.arity) }) (variables_over P 0 x.1.arity), tt);
@@ -134,6 +135,7 @@ module _ (P : Protocol) (scoped : IsWellScoped P) where
   rule_over : (phase : ℕ) → IsPhase P phase → (rule : Rule) → IsRuleOver (signature_of P) rule → IsClauseOver P (rule_applied P phase rule)
   rule_over phase is rule h = record {
     hypotheses = known_terms phase is rule.left (terms_over P (rule_leaf 0) IsVariable (rule_leaf_over 0) rule.left h.left);
+    diffs = tt;
     conclusion = record { predicate = is; terms = (term_over P (rule_leaf 0) IsVariable (rule_leaf_over 0) rule.right h.right, tt) };
   }
 
@@ -142,15 +144,15 @@ module _ (P : Protocol) (scoped : IsWellScoped P) where
   rules_over phase is (rule ∷ rules) h = (rule_over phase is rule h.0, rules_over phase is rules h.1)
 
   fresh_over : IsClauseOver P fresh_known
-  fresh_over = record { hypotheses = tt; conclusion = record { predicate = zero_phase P; terms = ((refl, (tt, tt)), tt) } }
+  fresh_over = record { hypotheses = tt; diffs = tt; conclusion = record { predicate = zero_phase P; terms = ((refl, (tt, tt)), tt) } }
 
   heard_over : (phase : ℕ) → IsPhase P phase → IsClauseOver P (message_heard phase)
   heard_over phase is =
-      record { hypotheses = (record { predicate = is; terms = (tt, (tt, tt)) }, (record { predicate = is; terms = (tt, tt) }, tt)); conclusion = record { predicate = is; terms = (tt, tt) } }
+      record { hypotheses = (record { predicate = is; terms = (tt, (tt, tt)) }, (record { predicate = is; terms = (tt, tt) }, tt)); diffs = tt; conclusion = record { predicate = is; terms = (tt, tt) } }
 
   spoken_over : (phase : ℕ) → IsPhase P phase → IsClauseOver P (message_sent phase)
   spoken_over phase is =
-      record { hypotheses = (record { predicate = is; terms = (tt, tt) }, (record { predicate = is; terms = (tt, tt) }, tt)); conclusion = record { predicate = is; terms = (tt, (tt, tt)) } }
+      record { hypotheses = (record { predicate = is; terms = (tt, tt) }, (record { predicate = is; terms = (tt, tt) }, tt)); diffs = tt; conclusion = record { predicate = is; terms = (tt, (tt, tt)) } }
 
   -- the attacker's raw clauses of a phase
   done_over : (phase : ℕ) → IsPhase P phase → AllByRecursion (IsClauseOver P) (done_in P phase)
@@ -166,7 +168,7 @@ module _ (P : Protocol) (scoped : IsWellScoped P) where
       (all_made (IsClauseOver P) (λ p. numbered P.constructors p.0 ≡ Some p.1) (constructor_applied phase) (constructor_over phase is) (enumerate_from 1 P.constructors) (enumerated P.constructors)) behind
 
   kept_over : (phase : ℕ) → IsPhase P phase → IsPhase P (phase + 1) → IsClauseOver P (kept_known phase)
-  kept_over phase is next = record { hypotheses = (record { predicate = is; terms = (tt, tt) }, tt); conclusion = record { predicate = next; terms = (tt, tt) } }
+  kept_over phase is next = record { hypotheses = (record { predicate = is; terms = (tt, tt) }, tt); diffs = tt; conclusion = record { predicate = next; terms = (tt, tt) } }
 
   module _ (limits : IsWithinLimits P) where
     pub phase_within : (phase : ℕ) → phase ≤ greatest_phase P.main → IsPhase P phase
@@ -204,6 +206,7 @@ module _ (P : Protocol) (scoped : IsWellScoped P) where
   pub goal_over : IsWithinLimits P → (q : Query) → IsQueryOver (signature_of P) q → HasQueryLeaves P q → IsClauseOver P (goal_raw P q)
   goal_over limits (Secret message phase) h leaves = record {
     hypotheses = (record { predicate = phase_within limits phase leaves.1; terms = (term_over P query_leaf (IsDeclaredFree (signature_of P)) secret_leaf_over message h, tt) }, tt);
+    diffs = tt;
     conclusion = record { predicate = tt; terms = tt };
   }
   goal_over limits (SecretNew point phase) h leaves =
@@ -212,10 +215,12 @@ module _ (P : Protocol) (scoped : IsWellScoped P) where
       let there : IsRestriction P point count = restriction_asked P point leaves.0 in
       let symbol : IsSymbolOf P (Point point) (length arguments) = (subst (IsRestriction P point) (sym (length-variables 0 count)) there, point_short P limits point leaves.0.node leaves.0.stands) in record {
         hypotheses = (record { predicate = phase_within limits phase leaves.1; terms = (node_over P (Point point) arguments symbol (variables_over P 0 count), tt) }, tt);
+        diffs = tt;
         conclusion = record { predicate = tt; terms = tt };
       }
   goal_over limits (Correspondence left alternatives) h leaves =
       let e = event_over P query_leaf (IsFreeOrVariable (signature_of P)) query_leaf_over left h.0 in record {
         hypotheses = (record { predicate = e.0; terms = e.1 }, tt);
+        diffs = tt;
         conclusion = record { predicate = tt; terms = variables_known (event_variables left) };
       }

@@ -7,6 +7,8 @@ pub mod Given
 pub mod Scopes
 pub mod Applied
 pub mod Choices
+pub mod Otherwise
 pub mod Visited
+pub mod Constraints
 pub mod Certificates
 pub mod Proving

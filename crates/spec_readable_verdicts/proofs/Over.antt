@@ -2,13 +2,13 @@
 -- since a symbol that doesn't pass can be left out of each unifier.
 use Rattle.std.proofs.Common.{◌≡◌, ◌⊎◌, ◌∙◌, ℕ, ◌+◌, List, [], ◌∷◌, map, refl, ap, sym, subst, inl, inr}
 use Rattle.std.specs.List.{AllByRecursion}
-use Rattle.spec_trees.specs.Tree.{Trees, Leaf, Node, none, more, bind, binds}
+use Rattle.spec_trees.specs.Tree.{Tree, Trees, Leaf, Node, none, more, bind, binds}
 use Rattle.spec_well_formed.specs.Terms.{row_length, EachSymbol, EachSymbolInRow}
 use Rattle.spec_terms.specs.Term.{Sym, Term, Subst}
 use Rattle.spec_terms.specs.Unifier.{IsMostGeneral}
 
 -- a substitution keeps how many terms stand in a row
-pub row_length-binds : (s : Subst) (ts : Trees ℕ Sym) → row_length (binds s ts) ≡ row_length ts
+pub row_length-binds : {X Y : Type 0} (s : X → Tree Y Sym) (ts : Trees X Sym) → row_length (binds s ts) ≡ row_length ts
 row_length-binds s none = refl
 row_length-binds s (more t ts) = ap (λ n. n + 1) (row_length-binds s ts)
 
@@ -23,11 +23,11 @@ where_it_holds (inr never) t h = absurd (never h)
 
 module _ (Q : Sym → ℕ → Type 0) where
   mutual
-    pub bind-over : (s : Subst) → ((x : ℕ) → EachSymbol Q (s x)) → (t : Term) → EachSymbol Q t → EachSymbol Q (bind s t)
+    pub bind-over : {X Y : Type 0} (s : X → Tree Y Sym) → ((x : X) → EachSymbol Q (s x)) → (t : Tree X Sym) → EachSymbol Q t → EachSymbol Q (bind s t)
     bind-over s each (Leaf x) h = each x
     bind-over s each (Node f args) h = (subst (Q f) (sym (row_length-binds s args)) h.0, binds-over s each args h.1)
 
-    binds-over : (s : Subst) → ((x : ℕ) → EachSymbol Q (s x)) → (ts : Trees ℕ Sym) → EachSymbolInRow Q ts → EachSymbolInRow Q (binds s ts)
+    binds-over : {X Y : Type 0} (s : X → Tree Y Sym) → ((x : X) → EachSymbol Q (s x)) → (ts : Trees X Sym) → EachSymbolInRow Q ts → EachSymbolInRow Q (binds s ts)
     binds-over s each none h = tt
     binds-over s each (more t ts) h = (bind-over s each t h.0, binds-over s each ts h.1)
 

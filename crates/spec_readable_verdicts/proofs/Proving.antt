@@ -16,7 +16,6 @@ use Rattle.spec_clauses.proofs.Lists.{all_append}
 use Rattle.spec_translation.specs.Satisfied.{is_bad}
 use Rattle.spec_translation.specs.Translation.{Clauses, IsTranslation}
 use Rattle.spec_translation.proofs.Goal.{all_at, all_of_each, clauses_placed}
-use Rattle.spec_translation.proofs.Unconstrained.{clauses_bare}
 use Rattle.spec_translation.proofs.Sizes.{clauses_within}
 use Rattle.spec_certificates.specs.Certificate.{Certificate, IsInShape}
 use Rattle.spec_verdicts.specs.First.{all_pairs}
@@ -42,7 +41,7 @@ module _ (P : Protocol) (q : Query) (asked : IsAsked P q) (budget : ℕ) (most :
     given_kept : (c : Clause Term) → Has given c → IsKept P c
     given_kept c h =
         let each = translation_over P asked.limits asked.scoped q asked.over asked.leaves given translated in
-        record { over = all_at (IsClauseOver P) h.1 each; none = clauses_bare P q given c translated h; placed = clauses_placed P q given translated c h }
+        record { over = all_at (IsClauseOver P) h.1 each; placed = clauses_placed P q given translated c h }
 
     shape : (c : Clause Term) → Has cert.clauses c → IsInShape q c
     shape = live_shape P q given translated asked.limits asked.small budget p.log cert.clauses p.is_log p.live

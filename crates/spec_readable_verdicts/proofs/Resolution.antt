@@ -19,7 +19,6 @@ use Rattle.spec_clauses.proofs.NormKeeps.{all_pass_within}
 use Rattle.spec_clauses.proofs.Selection.{select-picks}
 use Rattle.spec_translation.specs.Placement.{may_be_supposed, may_be_concluded, IsWellPlaced}
 use Rattle.spec_translation.proofs.Goal.{all_at}
-use Rattle.spec_translation.proofs.Plain.{norms_diffs}
 use Rattle.spec_translation.proofs.Placement.{all_told-under, norms-concluded, norms-told, supposed_told}
 use Rattle.spec_saturation.specs.Key.{Key, key, is_before, Entry, below}
 use Rattle.spec_saturation.specs.Log.{IsLive, IsOffered, IsNew}
@@ -30,12 +29,11 @@ use Rattle.spec_saturation.proofs.Pairs.{has_numbered, live_number}
 use Rattle.spec_certificate_text.specs.OfProtocol.{IsSymbolOf}
 use Rattle.spec_readable_verdicts.proofs.Over.{cleaned, cleaned_under, cleaned-bind, cleaned-binds, most_general-over}
 use Rattle.spec_readable_verdicts.proofs.Symbols.{symbol}
-use Rattle.spec_readable_verdicts.proofs.Facts.{IsTermOver, IsFactOver, IsClauseOver, fact_over-under, facts_over-under, clause_over-under, norms_over}
+use Rattle.spec_readable_verdicts.proofs.Facts.{IsTermOver, IsFactOver, IsDiffOver, IsClauseOver, fact_over-under, facts_over-under, diffs_over-under, clause_over-under, norms_over}
 
--- a clause over the protocol without constraints, whose facts stand where they may
+-- a clause over the protocol whose facts stand where they may
 pub record IsKept (P : Protocol) (c : Clause Term) : Type 0 where
   pub over : IsClauseOver P c
-  pub none : c.diffs ≡ []
   pub placed : IsWellPlaced c
 
 -- resolvents are norms of a raw clause that isn't large
@@ -92,6 +90,7 @@ module _ (P : Protocol) where
     joined_over n = record {
       hypotheses = all_append (IsFactOver P) i.hypotheses (map (fact_under (moved n)) at.others) first.over.hypotheses
           (facts_over-under P (moved n) (λ x. tt) at.others (all_rest (IsFactOver P) picked second.over.hypotheses));
+      diffs = all_append (IsDiffOver P) i.diffs (map (diff_under (moved n)) j.diffs) first.over.diffs (diffs_over-under P (moved n) (λ x. tt) j.diffs second.over.diffs);
       conclusion = fact_over-under P (moved n) (λ x. tt) j.conclusion second.over.conclusion;
     }
 
@@ -110,7 +109,6 @@ module _ (P : Protocol) where
         let each = unifier_over i.conclusion (fact_under (moved n) at.fact) s first.over.conclusion fact most in
         subst (IsKept P) (sym made) (record {
           over = clause_over-under P s each (joined n i j at) (joined_over n);
-          none = λ k. map (diff_under s) (first.none k ++ map (diff_under (moved n)) (second.none k));
           placed = record {
             hypotheses = all_told-under may_be_supposed supposed_told s (joined n i j at).hypotheses ∙ joined_supposed n;
             conclusion = concluded-under s (fact_under (moved n) j.conclusion) ∙ (concluded-under (moved n) j.conclusion ∙ second.placed.conclusion);
@@ -124,7 +122,6 @@ module _ (P : Protocol) where
         let kept = raw_kept n.clause (subst (IsRawResolvent i j at) n.is is) in
         let there = subst (λ ds. Has ds c) n.are listed in record {
           over = norms_over P n.clause c kept.over there;
-          none = norms_diffs n.clause c kept.none there;
           placed = record { hypotheses = norms-told may_be_supposed supposed_told n.clause c kept.placed.hypotheses there; conclusion = norms-concluded n.clause c there ∙ kept.placed.conclusion };
         }
 

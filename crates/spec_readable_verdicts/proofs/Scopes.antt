@@ -23,7 +23,7 @@ use Rattle.spec_translation.proofs.Conversions.{found_in-under}
 use Rattle.spec_translation.proofs.Goal.{all_filter_map}
 use Rattle.spec_readable_verdicts.proofs.Over.{bind-over}
 use Rattle.spec_certificate_text.specs.OfProtocol.{IsPhase, IsSymbolOf}
-use Rattle.spec_readable_verdicts.proofs.Facts.{IsTermOver, AreTermsOver, IsFactOver, terms_over-under, facts_over-under}
+use Rattle.spec_readable_verdicts.proofs.Facts.{IsTermOver, AreTermsOver, IsFactOver, IsDiffOver, terms_over-under, facts_over-under, diffs_over-under}
 use Rattle.spec_readable_verdicts.proofs.Conversion.{converted_over, patterns_take, free_over, term_over}
 
 -- something of that name is found in the scope
@@ -87,6 +87,7 @@ module _ (P : Protocol) where
     pub scope : IsScopeOver v.scope
     pub found : (x : Name) → Has bound x → IsFound v.scope x
     pub hypotheses : AllByRecursion (IsFactOver P) v.hypotheses
+    pub diffs : AllByRecursion (IsDiffOver P) v.diffs
     pub messages : AreTermsOver P v.messages
     pub sessions : AreTermsOver P v.sessions
     pub count : length v.messages + length v.sessions ≡ above
@@ -138,6 +139,7 @@ module _ (P : Protocol) where
       scope = scope_over-under s each v.scope is.scope;
       found = λ x h. still_found s x (is.found x h);
       hypotheses = facts_over-under P s each v.hypotheses is.hypotheses;
+      diffs = diffs_over-under P s each v.diffs is.diffs;
       messages = terms_over-under P s each v.messages is.messages;
       sessions = terms_over-under P s each v.sessions is.sessions;
       count = omega (arith, length-map v.messages (bind s), length-map v.sessions (bind s), is.count);

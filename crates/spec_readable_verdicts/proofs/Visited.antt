@@ -9,7 +9,7 @@ use Rattle.spec_calculus.specs.Syntax as calculus
 use Rattle.spec_calculus.specs.Points.{point_after, greatest_phase}
 use Rattle.spec_calculus.specs.Bounds.{most_visits}
 use Rattle.spec_well_formed.specs.Signature.{signature_of}
-use Rattle.spec_well_formed.specs.Terms.{IsTermBelow, IsPatternBelow, IsKnown, IsEventOver, HasArity, bound_by, bound_by_row}
+use Rattle.spec_well_formed.specs.Terms.{IsTermBelow, IsPatternBelow, IsExpressionBelow, IsKnown, IsEventOver, HasArity, bound_by, bound_by_row}
 use Rattle.spec_well_formed.specs.Limits.{IsWithinLimits}
 use Rattle.spec_well_formed.specs.Processes.{IsProcessBelow}
 use Rattle.spec_well_formed.specs.Queries.{HasQueryLeaves}
@@ -22,7 +22,7 @@ use Rattle.spec_clauses.proofs.Inclusion.{Has-append, Has-one}
 use Rattle.spec_clauses.proofs.Lists.{all_append, all-flat_map, all_weaker}
 use Rattle.spec_translation.specs.Conversion.{StandsFor, term_in, leaf_term, Fresh, pattern_term, name_term}
 use Rattle.spec_translation.specs.Visit.{Visit, first_visit, is_large_visit, evaluates_large, sent, raw_clause, after_input, after_copy, after_new, event_terms, after_event, after_phase, written_terms}
-use Rattle.spec_translation.specs.Otherwise.{otherwise_visit}
+use Rattle.spec_translation.specs.Otherwise.{choice_diffs, otherwise_visit}
 use Rattle.spec_translation.specs.Course.{Outcome, Done, TooLarge, Course, Finished, Counted, Unless, preceded, After, Then, Adds}
 use Rattle.spec_translation.specs.Visited.{some_large, EachThen, Copied, Received, Chosen, Fetched, Visited}
 use Rattle.spec_translation.specs.Goal.{goal_raw}
@@ -31,11 +31,12 @@ use Rattle.spec_translation.specs.Translation.{Clauses, attacker_clauses, goal_c
 use Rattle.spec_translation.proofs.Goal.{all_of_each}
 use Rattle.spec_abstraction.proofs.Standing.{Stands, whole_stands, stands_numbered, stands_counted, output_next, input_next, parallel_left, parallel_right, replication_next, new_next, let_next, let_otherwise, event_next, phase_next, insert_next, get_next, get_otherwise}
 use Rattle.spec_certificate_text.specs.OfProtocol.{IsPhase, IsRestriction, IsSymbolOf}
-use Rattle.spec_readable_verdicts.proofs.Facts.{IsTermOver, AreTermsOver, IsFactOver, IsClauseOver, zero_phase, node_over, norms_over}
+use Rattle.spec_readable_verdicts.proofs.Facts.{IsTermOver, AreTermsOver, IsFactOver, IsDiffOver, IsClauseOver, zero_phase, node_over, norms_over}
 use Rattle.spec_readable_verdicts.proofs.Conversion.{event_over}
 use Rattle.spec_readable_verdicts.proofs.Given.{attacker_over, goal_over, phase_within, point_short}
 use Rattle.spec_readable_verdicts.proofs.Scopes.{IsFound, IsVisitOver, leaf_over, term_in_over, pattern_over, sent_over, scope_with, found_with, found_first, found_last, found_at}
 use Rattle.spec_readable_verdicts.proofs.Choices.{all_go_over, entry_goes_over}
+use Rattle.spec_readable_verdicts.proofs.Otherwise.{else_over}
 
 -- this holds of each clause with which a course is done
 abbrev AllDone : (Clause Term → Type 0) → Outcome → Type 0
@@ -90,6 +91,7 @@ module _ (P : Protocol) (limits : IsWithinLimits P) (scoped : IsWellScoped P) wh
           scope = scope_with P bound above v is at pattern;
           found = found_with P bound above v is at pattern;
           hypotheses = all_append (IsFactOver P) v.hypotheses (fact ∷ []) is.hypotheses (sent_over P v.phase (term_in P v.scope channel) message is.phase (term_in_over P bound above v is channel to) over, tt);
+          diffs = is.diffs;
           messages = all_append (IsTermOver P) v.messages (message ∷ []) is.messages (over, tt);
           sessions = is.sessions;
           count = omega (arith, length-append v.messages (message ∷ []), is.count);
@@ -102,6 +104,7 @@ module _ (P : Protocol) (limits : IsWithinLimits P) (scoped : IsWellScoped P) wh
       scope = is.scope;
       found = is.found;
       hypotheses = is.hypotheses;
+      diffs = is.diffs;
       messages = is.messages;
       sessions = all_append (IsTermOver P) v.sessions (Leaf n ∷ []) is.sessions (tt, tt);
       count = omega (arith, length-append v.sessions (Leaf n ∷ []), is.count);
@@ -131,6 +134,7 @@ module _ (P : Protocol) (limits : IsWithinLimits P) (scoped : IsWellScoped P) wh
             | inr k ↦ found_first v.scope (d ∷ []) x (is.found x k)
           ];
           hypotheses = is.hypotheses;
+          diffs = is.diffs;
           messages = is.messages;
           sessions = is.sessions;
           count = is.count;
@@ -148,6 +152,7 @@ module _ (P : Protocol) (limits : IsWithinLimits P) (scoped : IsWellScoped P) wh
       scope = is.scope;
       found = is.found;
       hypotheses = all_append (IsFactOver P) v.hypotheses (Mev e.event (event_terms P v e) ∷ []) is.hypotheses ((performed_over e h).1, tt);
+      diffs = is.diffs;
       messages = is.messages;
       sessions = is.sessions;
       count = is.count;
@@ -157,7 +162,7 @@ module _ (P : Protocol) (limits : IsWithinLimits P) (scoped : IsWellScoped P) wh
     -- in a later phase
     after_phase_over : (number : ℕ) → IsPhase P number → IsVisitOver P bound above (after_phase v number)
     after_phase_over number in_phase =
-        record { scope = is.scope; found = is.found; hypotheses = is.hypotheses; messages = is.messages; sessions = is.sessions; count = is.count; phase = in_phase }
+        record { scope = is.scope; found = is.found; hypotheses = is.hypotheses; diffs = is.diffs; messages = is.messages; sessions = is.sessions; count = is.count; phase = in_phase }
 
     -- an entry that is written
     written_over : (ts : List calculus.Term) → AllByRecursion (IsTermBelow (signature_of P) bound) ts → AreTermsOver P (written_terms P v ts)
@@ -169,9 +174,17 @@ module _ (P : Protocol) (limits : IsWithinLimits P) (scoped : IsWellScoped P) wh
         record { predicate = record { declared = h.declared; there = h.stands; arity = h.is ∙ sym (length-map ts (term_in P v.scope)) }; terms = written_over ts below }
 
     -- in an else branch
-    otherwise_over : (pattern : Pattern) (expression : Expression) → IsVisitOver P bound above (otherwise_visit P v pattern expression)
-    otherwise_over pattern expression =
-        record { scope = is.scope; found = is.found; hypotheses = is.hypotheses; messages = is.messages; sessions = is.sessions; count = is.count; phase = is.phase }
+    otherwise_over : (pattern : Pattern) (expression : Expression) → IsPatternBelow (signature_of P) bound pattern → IsExpressionBelow (signature_of P) bound expression → IsVisitOver P bound above (otherwise_visit P v pattern expression)
+    otherwise_over pattern expression fits below = record {
+      scope = is.scope;
+      found = is.found;
+      hypotheses = is.hypotheses;
+      diffs = all_append (IsDiffOver P) v.diffs (choice_diffs P v.scope pattern expression) is.diffs (else_over P scoped bound above v is pattern fits expression below);
+      messages = is.messages;
+      sessions = is.sessions;
+      count = is.count;
+      phase = is.phase;
+    }
 
   -- What the visits of a process add is over the protocol.
   visited_keeps : (process : Process) (point above : ℕ) (bound : List Name) (v : Visit) → Stands P.main point process above → IsProcessBelow (signature_of P) bound point process → greatest_phase process ≤ greatest_phase P.main → IsVisitOver P bound above v → Keeps (IsClauseOver P) (Visited P process point v)
@@ -184,7 +197,7 @@ module _ (P : Protocol) (limits : IsWithinLimits P) (scoped : IsWellScoped P) wh
       let R = Visited P next (point + 1) v in
       let over = sent_over P v.phase (term_in P v.scope channel) (term_in P v.scope message) is.phase (term_in_over P bound above v is channel below.0) (term_in_over P bound above v is message below.1) in
       counted_keeps Q point (Unless test point (Adds (norms raw) R)) (unless_keeps Q test point (Adds (norms raw) R)
-      (adds_keeps Q (norms raw) R (all_norms raw (record { hypotheses = is.hypotheses; conclusion = over }))
+      (adds_keeps Q (norms raw) R (all_norms raw (record { hypotheses = is.hypotheses; diffs = is.diffs; conclusion = over }))
       (visited_keeps next (point + 1) above bound v (output_next P.main point above channel message next stands) below.2 up is)))
   visited_keeps (Input channel pattern next) point above bound v stands below up is =
       let Q = IsClauseOver P in
@@ -222,7 +235,7 @@ module _ (P : Protocol) (limits : IsWithinLimits P) (scoped : IsWellScoped P) wh
       unless_keeps Q (some_large outs) point (EachThen R outs T)
       (each_keeps Q IsSo R T
       (λ w k. visited_keeps next (point + 1) above (bound_by pattern ++ bound) w (let_next P.main point above pattern expression next otherwise stands) below.2 (omega (arith, up)) k)
-      (visited_keeps otherwise (point_after (point + 1) next) above bound w_else (let_otherwise P.main point above pattern expression next otherwise stands) below.3 (omega (arith, up)) (otherwise_over bound above v is pattern expression))
+      (visited_keeps otherwise (point_after (point + 1) next) above bound w_else (let_otherwise P.main point above pattern expression next otherwise stands) below.3 (omega (arith, up)) (otherwise_over bound above v is pattern expression below.0 below.1))
       outs (all_go_over P scoped bound above v is pattern below.0 expression below.1 outs go)) left out x))
   visited_keeps (Event performed next) point above bound v stands below up is =
       let Q = IsClauseOver P in
@@ -231,7 +244,7 @@ module _ (P : Protocol) (limits : IsWithinLimits P) (scoped : IsWellScoped P) wh
       let R = Visited P next (point + 1) w in
       let test = evaluates_large P v (Event performed next) || (is_large_raw raw || is_large_visit w) in
       counted_keeps Q point (Unless test point (Adds (norms raw) R)) (unless_keeps Q test point (Adds (norms raw) R)
-      (adds_keeps Q (norms raw) R (all_norms raw (record { hypotheses = is.hypotheses; conclusion = (performed_over bound above v is performed below.0).0 }))
+      (adds_keeps Q (norms raw) R (all_norms raw (record { hypotheses = is.hypotheses; diffs = is.diffs; conclusion = (performed_over bound above v is performed below.0).0 }))
       (visited_keeps next (point + 1) above bound w (event_next P.main point above performed next stands) below.1 up (after_event_over bound above v is performed below.0))))
   visited_keeps (Phase number next) point above bound v stands below up is =
       let w = after_phase v number in
@@ -243,7 +256,7 @@ module _ (P : Protocol) (limits : IsWithinLimits P) (scoped : IsWellScoped P) wh
       let test = evaluates_large P v (Insert table arguments next) || is_large_raw raw in
       let R = Visited P next (point + 1) v in
       counted_keeps Q point (Unless test point (Adds (norms raw) R)) (unless_keeps Q test point (Adds (norms raw) R)
-      (adds_keeps Q (norms raw) R (all_norms raw (record { hypotheses = is.hypotheses; conclusion = inserted_over bound above v is table arguments below.0 below.1 }))
+      (adds_keeps Q (norms raw) R (all_norms raw (record { hypotheses = is.hypotheses; diffs = is.diffs; conclusion = inserted_over bound above v is table arguments below.0 below.1 }))
       (visited_keeps next (point + 1) above bound v (insert_next P.main point above table arguments next stands) below.2 up is)))
   visited_keeps (Get table patterns condition next otherwise) point above bound v stands below up is =
       let Q = IsClauseOver P in
@@ -262,7 +275,7 @@ module _ (P : Protocol) (limits : IsWithinLimits P) (scoped : IsWellScoped P) wh
 
   -- the first visit
   first_over : IsVisitOver P [] 0 first_visit
-  first_over = record { scope = tt; found = λ x h. elim h.1 [ ]; hypotheses = tt; messages = tt; sessions = tt; count = refl; phase = zero_phase P }
+  first_over = record { scope = tt; found = λ x h. elim h.1 [ ]; hypotheses = tt; diffs = tt; messages = tt; sessions = tt; count = refl; phase = zero_phase P }
 
   -- Each clause of a translation.
   pub translation_over : (q : Query) → IsQueryOver (signature_of P) q → HasQueryLeaves P q → (all : List (Clause Term)) → IsTranslation P q (Clauses all) → AllByRecursion (IsClauseOver P) all

@@ -6,11 +6,12 @@ use Rattle.spec_terms.specs.Term.{Term}
 use Rattle.spec_clauses.specs.Fact.{Fact, Clause}
 use Rattle.spec_certificates.specs.Certificate.{Certificate}
 use Rattle.spec_certificate_text.specs.OfProtocol.{HasNames}
+use Rattle.spec_certificate_text.specs.Sides.{SpelledClause, meant_clause}
 use Rattle.spec_certificate_text.specs.Text.{fact_text, clause_text, certificate_text}
 use Rattle.spec_certificate_text.specs.Terms.{Syntax}
 use Rattle.spec_certificate_text.specs.Outcomes.{Found, Faulty, next, front, read_fixed, read_number, Reader, things, lines_from}
 use Rattle.spec_certificate_text.specs.Facts.{read_hypothesis, read_conclusion}
-use Rattle.spec_certificate_text.specs.Clauses.{one_hypothesis, read_hypotheses, read_clause}
+use Rattle.spec_certificate_text.specs.Clauses.{Premises, read_premises, read_spelled_clause, read_clause}
 use Rattle.spec_certificate_text.specs.Certificates.{clause_line, one_number, row_line, read_rows, certificate_end, certificate_within, read_certificate}
 use Rattle.spec_certificate_text.specs.Readable.{IsHypothesisOf, IsConclusionOf, IsReadable, IsReadableCertificate}
 use Rattle.spec_certificate_text.proofs.Things.{Complete}
@@ -20,57 +21,34 @@ use Rattle.spec_certificate_text.proofs.CertificatesRead.{read_certificate-found
 use Rattle.spec_reading_faults.proofs.Shared.{shares_behind, IsLocal, Moves, next_local, moves_first, moves_second, choice_local, choice_moves, found_local, skip_local, skip_moves}
 use Rattle.spec_reading_faults.proofs.Parts.{fixed_moves, number_local, things_local, lines_local, all_lines_local}
 use Rattle.spec_reading_faults.proofs.Facts.{behind_fixed, closing_local, hypothesis_local, conclusion_local}
+use Rattle.spec_reading_faults.proofs.Premises.{premises_local}
 
 -- fixed bytes behind which a thing is there pass over some
 closing_moves : {A : Type 0} (w : ℕ) (ws : List ℕ) (x : A) → Moves (λ bytes at. next (read_fixed (w ∷ ws) bytes at) (λ _ p k. Found x p k))
 closing_moves w ws x = moves_first (read_fixed (w ∷ ws)) (λ at u bytes p. Found x p bytes) (fixed_moves w ws) (λ at u. found_local x)
 
-behind_hypothesis : Fact Term → Reader (Fact Term × Bool)
-behind_hypothesis h bytes at =
-    if front bytes == 44 then next (read_fixed (codes ", ") bytes at) (λ _ p r. Found (h, true) p r)
-    else next (read_fixed (codes " => ") bytes at) (λ _ p r. Found (h, false) p r)
+with_conclusion : Protocol → Premises → Reader (SpelledClause Term)
+with_conclusion P ps bytes at = next (read_conclusion P bytes at) (λ c p r. Found (record { hypotheses = ps.hypotheses; diffs = ps.diffs; conclusion = c }) p r)
 
-behind_hypothesis-local : (h : Fact Term) → IsLocal (behind_hypothesis h)
-unfolding behind_hypothesis
-behind_hypothesis-local h =
-    choice_local (λ b. b == 44) (λ bytes at. next (read_fixed (codes ", ") bytes at) (λ _ p r. Found (h, true) p r)) (λ bytes at. next (read_fixed (codes " => ") bytes at) (λ _ p r. Found (h, false) p r))
-    (closing_local (codes ", ") (h, true)) (closing_local (codes " => ") (h, false))
-
-behind_hypothesis-moves : (h : Fact Term) → Moves (behind_hypothesis h)
-unfolding behind_hypothesis
-behind_hypothesis-moves h =
-    choice_moves (λ b. b == 44) (λ bytes at. next (read_fixed (codes ", ") bytes at) (λ _ p r. Found (h, true) p r)) (λ bytes at. next (read_fixed (codes " => ") bytes at) (λ _ p r. Found (h, false) p r))
-    (closing_moves 44 (32 ∷ []) (h, true)) (closing_moves 32 (codes "=> ") (h, false))
-
-pub one_hypothesis-local : (P : Protocol) → IsLocal (one_hypothesis P)
-unfolding behind_hypothesis
-one_hypothesis-local P = next_local (read_hypothesis P) (λ at h. behind_hypothesis h) (hypothesis_local P) (λ at h. behind_hypothesis-local h)
-
-pub one_hypothesis-moves : (P : Protocol) → Moves (one_hypothesis P)
-unfolding behind_hypothesis
-one_hypothesis-moves P = moves_second (read_hypothesis P) (λ at h. behind_hypothesis h) (hypothesis_local P) (λ at h. behind_hypothesis-moves h)
-
-no_hypotheses : Reader (List (Fact Term))
-no_hypotheses bytes at = next (read_fixed (codes "=> ") bytes at) (λ _ p r. Found [] p r)
-
-no_hypotheses-local : IsLocal no_hypotheses
-unfolding no_hypotheses
-no_hypotheses-local = closing_local (codes "=> ") []
-
-hypotheses_local : (P : Protocol) → IsLocal (read_hypotheses P)
-unfolding no_hypotheses
-hypotheses_local P = choice_local (λ b. b == 61) no_hypotheses (things (one_hypothesis P)) no_hypotheses-local (things_local (one_hypothesis P) (one_hypothesis-local P) (one_hypothesis-moves P))
-
-with_conclusion : Protocol → List (Fact Term) → Reader (Clause Term)
-with_conclusion P hs bytes at = next (read_conclusion P bytes at) (λ c p r. Found (record { hypotheses = hs; diffs = []; conclusion = c }) p r)
-
-with_conclusion-local : (P : Protocol) (hs : List (Fact Term)) → IsLocal (with_conclusion P hs)
+with_conclusion-local : (P : Protocol) (ps : Premises) → IsLocal (with_conclusion P ps)
 unfolding with_conclusion
-with_conclusion-local P hs = next_local (read_conclusion P) (λ at c bytes p. Found (record { hypotheses = hs; diffs = []; conclusion = c }) p bytes) (conclusion_local P) (λ at c. found_local (record { hypotheses = hs; diffs = []; conclusion = c }))
+with_conclusion-local P ps =
+    next_local (read_conclusion P) (λ at c bytes p. Found (record { hypotheses = ps.hypotheses; diffs = ps.diffs; conclusion = c }) p bytes) (conclusion_local P)
+    (λ at c. found_local (record { hypotheses = ps.hypotheses; diffs = ps.diffs; conclusion = c }))
+
+concluded : Protocol → Premises → Reader (SpelledClause Term)
+concluded P ps bytes at = next (read_fixed (codes "=> ") bytes at) (λ _ p r. with_conclusion P ps r p)
+
+concluded_local : (P : Protocol) (ps : Premises) → IsLocal (concluded P ps)
+unfolding concluded
+concluded_local P ps = behind_fixed (codes "=> ") (with_conclusion P ps) (with_conclusion-local P ps)
+
+spelled_local : (P : Protocol) → IsLocal (read_spelled_clause P)
+unfolding concluded with_conclusion
+spelled_local P = next_local (read_premises P) (λ at ps. concluded P ps) (premises_local P) (λ at ps. concluded_local P ps)
 
 pub clause_local : (P : Protocol) → IsLocal (read_clause P)
-unfolding with_conclusion
-clause_local P = next_local (read_hypotheses P) (λ at hs. with_conclusion P hs) (hypotheses_local P) (λ at hs. with_conclusion-local P hs)
+clause_local P = next_local (read_spelled_clause P) (λ at c bytes p. Found (meant_clause c) p bytes) (spelled_local P) (λ at c. found_local (meant_clause c))
 
 -- Lines.
 

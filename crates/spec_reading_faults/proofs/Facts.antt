@@ -1,16 +1,17 @@
--- Facts: a fault of syntax, and what is found, is told by the bytes up to the place.
-use Rattle.std.proofs.Common.{◌≡◌, ℕ, ◌+◌, ◌==◌, if◌then◌else◌, Bool, true, false, List, [], ◌∷◌, length, drop, Option, Some, None, codes, refl}
+-- Facts and constraints: a fault of syntax, and what is found, is told by the bytes up to the place.
+use Rattle.std.proofs.Common.{◌≡◌, ℕ, ◌+◌, ◌==◌, if◌then◌else◌, Bool, true, false, List, [], ◌∷◌, length, drop, Option, Some, None, codes, refl, sym, ◌∙◌}
 use Rattle.spec_calculus.specs.Syntax.{Declared, Protocol}
 use Rattle.spec_protocol_tokens.specs.Bytes.{begins_word, is_in_word}
 use Rattle.spec_terms.specs.Term.{Term}
 use Rattle.spec_clauses.specs.Fact.{Fact, Att, Mess, Tab, Ev, Mev, Bad}
+use Rattle.spec_certificate_text.specs.Sides.{SidesOf}
 use Rattle.spec_certificate_text.specs.Names.{CalledEvent, called_in}
 use Rattle.spec_certificate_text.specs.Terms.{Syntax, Symbol, Arity}
-use Rattle.spec_certificate_text.specs.Outcomes.{Outcome, Found, Faulty, next, front, ended, read_fixed, read_number, Reader}
-use Rattle.spec_certificate_text.specs.Facts.{one_term, argument, read_terms, Performed, performed, event_named, read_call, read_event, read_entry, is_later_phase, as_phase, read_later_phase, read_phase, read_att, read_mess, read_tab, read_ev, bad_arguments, read_bad, read_mev_or_mess, read_hypothesis, read_conclusion}
-use Rattle.spec_reading_faults.proofs.Shared.{IsLocal, Moves, next_local, moves_second, choice_local, choice_moves, found_local, skip_local, skip_moves, never_local, other_local, ended_local}
-use Rattle.spec_reading_faults.proofs.Terms.{term_local}
-use Rattle.spec_reading_faults.proofs.Parts.{same_local, either_local, fixed_local, run, run_local, number_local, things_local}
+use Rattle.spec_certificate_text.specs.Outcomes.{Outcome, Found, Faulty, next, front, ended, read_fixed, read_number, Reader, things}
+use Rattle.spec_certificate_text.specs.Facts.{one_tree, one_term, item_before, read_terms, Performed, performed, event_named, read_call, read_event, read_entry, is_later_phase, as_phase, read_later_phase, read_phase, read_att, read_mess, read_tab, read_ev, bad_arguments, read_bad, read_mev_or_mess, read_hypothesis, read_conclusion, read_sides, paired, read_diff}
+use Rattle.spec_reading_faults.proofs.Shared.{IsLocal, Moves, next_local, moves_first, moves_second, choice_local, choice_moves, found_local, skip_local, skip_moves, never_local, other_local, ended_local}
+use Rattle.spec_reading_faults.proofs.Terms.{tree_local}
+use Rattle.spec_reading_faults.proofs.Parts.{same_local, either_local, fixed_local, fixed_moves, run, run_local, number_local, things_local}
 
 -- fixed bytes, and then the thing is there
 closed_by : {A : Type 0} → List ℕ → A → Reader A
@@ -43,32 +44,35 @@ no_thing-moves : {A : Type 0} → Moves {A = A} no_thing
 unfolding no_thing
 no_thing-moves {A} bytes at place y rest e = absurd (cc)
 
--- `,` where another follows, or `)`
-behind_argument : Term → Reader (Term × Bool)
-behind_argument t bytes at = if front bytes == 44 then skipping (t, true) bytes at else (if front bytes == 41 then skipping (t, false) bytes at else no_thing bytes at)
+-- `,` where another follows, or the byte that closes the row
+behind_item : ℕ → Term → Reader (Term × Bool)
+behind_item closing t bytes at = if front bytes == 44 then skipping (t, true) bytes at else (if front bytes == closing then skipping (t, false) bytes at else no_thing bytes at)
 
-behind_argument-local : (t : Term) → IsLocal (behind_argument t)
-unfolding behind_argument
-behind_argument-local t =
-    choice_local (λ b. b == 44) (skipping (t, true)) (λ bytes at. if front bytes == 41 then skipping (t, false) bytes at else no_thing bytes at) (skipping_local (t, true))
-    (choice_local (λ b. b == 41) (skipping (t, false)) no_thing (skipping_local (t, false)) no_thing-local)
+behind_item-local : (closing : ℕ) (t : Term) → IsLocal (behind_item closing t)
+unfolding behind_item
+behind_item-local closing t =
+    choice_local (λ b. b == 44) (skipping (t, true)) (λ bytes at. if front bytes == closing then skipping (t, false) bytes at else no_thing bytes at) (skipping_local (t, true))
+    (choice_local (λ b. b == closing) (skipping (t, false)) no_thing (skipping_local (t, false)) no_thing-local)
 
-behind_argument-moves : (t : Term) → Moves (behind_argument t)
-unfolding behind_argument
-behind_argument-moves t =
-    choice_moves (λ b. b == 44) (skipping (t, true)) (λ bytes at. if front bytes == 41 then skipping (t, false) bytes at else no_thing bytes at) (skipping_moves (t, true))
-    (choice_moves (λ b. b == 41) (skipping (t, false)) no_thing (skipping_moves (t, false)) no_thing-moves)
+behind_item-moves : (closing : ℕ) (t : Term) → Moves (behind_item closing t)
+unfolding behind_item
+behind_item-moves closing t =
+    choice_moves (λ b. b == 44) (skipping (t, true)) (λ bytes at. if front bytes == closing then skipping (t, false) bytes at else no_thing bytes at) (skipping_moves (t, true))
+    (choice_moves (λ b. b == closing) (skipping (t, false)) no_thing (skipping_moves (t, false)) no_thing-moves)
 
-argument_local : (P : Protocol) → IsLocal (argument P)
-unfolding behind_argument skipping no_thing
-argument_local P = next_local (one_term P) (λ at t. behind_argument t) (term_local P) (λ at t. behind_argument-local t)
+item_local : (binds : Bool) (P : Protocol) (closing : ℕ) → IsLocal (item_before closing (one_tree binds P))
+unfolding behind_item skipping no_thing
+item_local binds P closing = next_local (one_tree binds P) (λ at t. behind_item closing t) (tree_local binds P) (λ at t. behind_item-local closing t)
 
-argument_moves : (P : Protocol) → Moves (argument P)
-unfolding behind_argument skipping no_thing
-argument_moves P = moves_second (one_term P) (λ at t. behind_argument t) (term_local P) (λ at t. behind_argument-moves t)
+item_moves : (binds : Bool) (P : Protocol) (closing : ℕ) → Moves (item_before closing (one_tree binds P))
+unfolding behind_item skipping no_thing
+item_moves binds P closing = moves_second (one_tree binds P) (λ at t. behind_item closing t) (tree_local binds P) (λ at t. behind_item-moves closing t)
+
+pub row_local : (binds : Bool) (P : Protocol) (closing : ℕ) → IsLocal (things (item_before closing (one_tree binds P)))
+row_local binds P closing = things_local (item_before closing (one_tree binds P)) (item_local binds P closing) (item_moves binds P closing)
 
 pub terms_local : (P : Protocol) → IsLocal (read_terms P)
-terms_local P = things_local (argument P) (argument_local P) (argument_moves P)
+terms_local P = row_local false P 41
 
 -- Events and entries.
 
@@ -178,7 +182,7 @@ att_term P k bytes at = next (one_term P bytes at) (λ t p r. next (read_fixed (
 
 att_term-local : (P : Protocol) (k : ℕ) → IsLocal (att_term P k)
 unfolding att_term
-att_term-local P k = next_local (one_term P) (λ at t bytes p. next (read_fixed (codes ")") bytes p) (λ _ p r. Found (Att k t) p r)) (term_local P) (λ at t. closing_local (codes ")") (Att k t))
+att_term-local P k = next_local (one_term P) (λ at t bytes p. next (read_fixed (codes ")") bytes p) (λ _ p r. Found (Att k t) p r)) (tree_local false P) (λ at t. closing_local (codes ")") (Att k t))
 
 att_local : (P : Protocol) → IsLocal (read_att P)
 unfolding in_phase att_term
@@ -189,14 +193,14 @@ second_term P k t bytes at = next (one_term P bytes at) (λ u p r. next (read_fi
 
 second_term-local : (P : Protocol) (k : ℕ) (t : Term) → IsLocal (second_term P k t)
 unfolding second_term
-second_term-local P k t = next_local (one_term P) (λ at u bytes p. next (read_fixed (codes ")") bytes p) (λ _ p r. Found (Mess k t u) p r)) (term_local P) (λ at u. closing_local (codes ")") (Mess k t u))
+second_term-local P k t = next_local (one_term P) (λ at u bytes p. next (read_fixed (codes ")") bytes p) (λ _ p r. Found (Mess k t u) p r)) (tree_local false P) (λ at u. closing_local (codes ")") (Mess k t u))
 
 first_term : Protocol → ℕ → Reader (Fact Term)
 first_term P k bytes at = next (one_term P bytes at) (λ t p r. next (read_fixed (codes ",") r p) (λ _ p r. second_term P k t r p))
 
 first_term-local : (P : Protocol) (k : ℕ) → IsLocal (first_term P k)
 unfolding first_term
-first_term-local P k = next_local (one_term P) (λ at t bytes p. next (read_fixed (codes ",") bytes p) (λ _ p r. second_term P k t r p)) (term_local P) (λ at t. behind_fixed (codes ",") (second_term P k t) (second_term-local P k t))
+first_term-local P k = next_local (one_term P) (λ at t bytes p. next (read_fixed (codes ",") bytes p) (λ _ p r. second_term P k t r p)) (tree_local false P) (λ at t. behind_fixed (codes ",") (second_term P k t) (second_term-local P k t))
 
 mess_local : (P : Protocol) → IsLocal (read_mess P)
 unfolding in_phase first_term second_term
@@ -317,3 +321,64 @@ no_mess-local P = choice_local (λ b. b == 101) (read_ev P) (bad_or_att P) (ev_l
 pub conclusion_local : (P : Protocol) → IsLocal (read_conclusion P)
 unfolding no_mess bad_or_att tab_or_att
 conclusion_local P = choice_local (λ b. b == 109) (read_mess P) (no_mess P) (mess_local P) (no_mess-local P)
+
+-- Constraints.
+
+as_pairs : ℕ → List Term → List Term → Reader (SidesOf Term)
+as_pairs from left right bytes at = paired from left right at bytes
+
+as_pairs-local : (from : ℕ) (left right : List Term) → IsLocal (as_pairs from left right)
+unfolding as_pairs
+as_pairs-local from left right =
+    let whole : SidesOf Term = record { left = left; right = right } in
+    either_local (length left == length right) (λ bytes at. Found whole at bytes) (λ bytes at. Faulty from Arity) (found_local whole) (other_local from Arity (λ e. cc))
+
+right_sides : Protocol → ℕ → List Term → Reader (SidesOf Term)
+right_sides P from left bytes at = next (read_sides P 41 bytes at) (λ right p k. as_pairs from left right k p)
+
+right_sides-local : (P : Protocol) (from : ℕ) (left : List Term) → IsLocal (right_sides P from left)
+unfolding right_sides
+right_sides-local P from left = next_local (read_sides P 41) (λ at right. as_pairs from left right) (row_local true P 41) (λ at right. as_pairs-local from left right)
+
+both_sides : Protocol → ℕ → Reader (SidesOf Term)
+both_sides P from bytes at = next (read_sides P 59 bytes at) (λ left p k. right_sides P from left k p)
+
+both_sides-local : (P : Protocol) (from : ℕ) → IsLocal (both_sides P from)
+unfolding both_sides
+both_sides-local P from = next_local (read_sides P 59) (λ at left. right_sides P from left) (row_local true P 59) (λ at left. right_sides-local P from left)
+
+pub diff_local : (P : Protocol) → IsLocal (read_diff P)
+unfolding both_sides right_sides as_pairs
+diff_local P = next_local (read_fixed (codes "diff(")) (λ at u. both_sides P at) (fixed_local (codes "diff(")) (λ at u. both_sides-local P at)
+
+-- Each of them passes over a byte.
+
+moves_fixed : {A : Type 0} (w : ℕ) (ws : List ℕ) (r : Reader A) → IsLocal r → Moves (λ bytes at. next (read_fixed (w ∷ ws) bytes at) (λ _ p k. r k p))
+moves_fixed w ws r local = moves_first (read_fixed (w ∷ ws)) (λ at u. r) (fixed_moves w ws) (λ at u. local)
+
+mev_or_mess-moves : (P : Protocol) → Moves (read_mev_or_mess P)
+unfolding behind_me
+mev_or_mess-moves P bytes at place x rest e = moves_fixed 109 (codes "e") (third P) (third_local P) bytes at place x rest (sym (me_as P bytes at) ∙ e)
+
+ev_moves : (P : Protocol) → Moves (read_ev P)
+unfolding ev_event
+ev_moves P = moves_fixed 101 (codes "v(") (ev_event P) (ev_event-local P)
+
+tab_moves : (P : Protocol) → Moves (read_tab P)
+unfolding tab_entry
+tab_moves P = moves_fixed 116 (codes "ab(") (tab_entry P) (tab_entry-local P)
+
+att_moves : (P : Protocol) → Moves (read_att P)
+unfolding in_phase att_term
+att_moves P = moves_fixed 97 (codes "tt") (in_phase P (att_term P)) (in_phase-local P (att_term P) (att_term-local P))
+
+pub hypothesis_moves : (P : Protocol) → Moves (read_hypothesis P)
+unfolding ev_or_att tab_or_att
+hypothesis_moves P =
+    choice_moves (λ b. b == 109) (read_mev_or_mess P) (ev_or_att P) (mev_or_mess-moves P)
+    (choice_moves (λ b. b == 101) (read_ev P) (tab_or_att P) (ev_moves P)
+    (choice_moves (λ b. b == 116) (read_tab P) (read_att P) (tab_moves P) (att_moves P)))
+
+pub diff_moves : (P : Protocol) → Moves (read_diff P)
+unfolding both_sides right_sides as_pairs
+diff_moves P = moves_first (read_fixed (codes "diff(")) (λ at u. both_sides P at) (fixed_moves 100 (codes "iff(")) (λ at u. both_sides-local P at)

@@ -224,8 +224,8 @@ things_passed {A} r local (suc most) xs bytes at place ys rest e = by (r bytes a
     by (Found (x, false) p k) is told again = let places : p ≡ place = cc in let rests : k ≡ rest = cc in let cut = local.passed bytes at p (x, false) k is in record { count = cut.count; there = omega (arith, cut.there, places); is = sym rests ∙ cut.is }
 
 -- bytes behind others that something was found of
-fewer : (m : ℕ) (bytes : List ℕ) (n most : ℕ) → 1 ≤ n → length bytes ≤ suc most → length (drop n bytes) ≤ most
-fewer m bytes n most some few = omega (arith, length-drop n bytes, some, few)
+pub fewer : (bytes : List ℕ) (n most : ℕ) → 1 ≤ n → length bytes ≤ suc most → length (drop n bytes) ≤ most
+fewer bytes n most some few = omega (arith, length-drop n bytes, some, few)
 
 no_room : (n most : ℕ) (bytes others : List ℕ) → Shares n bytes others → (length bytes ≤ 0 → ⊥) × (length others ≤ 0 → ⊥)
 no_room n most bytes others shares = let some = shares_some n bytes others shares in (λ few. omega (arith, some.0, few), λ few. omega (arith, some.1, few))
@@ -271,7 +271,7 @@ things_fault {A} r local moves (suc most) (suc most') xs bytes others at n place
         let on = behind_by bytes others at n place p k shares there (local.passed bytes at p (x, true) k is) (moves bytes at p (x, true) k is) (things_later r local most (xs ++ x ∷ []) k p place told) in
         let found = local.found bytes others at on.count p (x, true) k (shares_less on.count n bytes others on.sooner shares) (omega (arith, on.there, on.left, there)) is in
         ap (λ q. next q (λ x p k. if x.1 then things_from r most' (xs ++ x.0 ∷ []) k p else Found (xs ++ x.0 ∷ []) p k)) found
-        ∙ again (xs ++ x ∷ []) (drop on.count bytes) (drop on.count others) p (n - on.count) (fewer 0 bytes on.count most on.some few) (fewer 0 others on.count most' on.some few') on.shares on.there (ap (λ j. things_from r most (xs ++ x ∷ []) j p) (sym on.rest) ∙ told)
+        ∙ again (xs ++ x ∷ []) (drop on.count bytes) (drop on.count others) p (n - on.count) (fewer bytes on.count most on.some few) (fewer others on.count most' on.some few') on.shares on.there (ap (λ j. things_from r most (xs ++ x ∷ []) j p) (sym on.rest) ∙ told)
     by (Found (x, false) p k) is told again = absurd (cc)
 
 things_found : {A : Type 0} (r : Reader (A × Bool)) → IsLocal r → Moves r → (most most' : ℕ) (xs : List A) (bytes others : List ℕ) (at n place : ℕ) (ys : List A) (rest : List ℕ) → length bytes ≤ most → length others ≤ most' → Shares n bytes others → place ≡ at + n
@@ -291,7 +291,7 @@ things_found {A} r local moves (suc most) (suc most') xs bytes others at n place
         let found = local.found bytes others at on.count p (x, true) k (shares_less on.count n bytes others on.sooner shares) (omega (arith, on.there, on.left, there)) is in
         let whole : on.count + (n - on.count) ≡ n = omega (arith, on.sooner) in
         ap (λ q. next q (λ x p k. if x.1 then things_from r most' (xs ++ x.0 ∷ []) k p else Found (xs ++ x.0 ∷ []) p k)) found
-        ∙ (again (xs ++ x ∷ []) (drop on.count bytes) (drop on.count others) p (n - on.count) (fewer 0 bytes on.count most on.some few) (fewer 0 others on.count most' on.some few') on.shares on.there (ap (λ j. things_from r most (xs ++ x ∷ []) j p) (sym on.rest) ∙ told)
+        ∙ (again (xs ++ x ∷ []) (drop on.count bytes) (drop on.count others) p (n - on.count) (fewer bytes on.count most on.some few) (fewer others on.count most' on.some few') on.shares on.there (ap (λ j. things_from r most (xs ++ x ∷ []) j p) (sym on.rest) ∙ told)
         ∙ ap (Found ys place) (drop-drop (n - on.count) on.count others ∙ ap (λ j. drop j others) whole))
     by (Found (x, false) p k) is told again =
         let words : xs ++ x ∷ [] ≡ ys = cc in
@@ -356,19 +356,22 @@ lines_room {A} letter r other local moves (suc most) (suc most') xs bytes at few
         let cut = local.passed bytes at p x k is in
         let some : 1 ≤ cut.count = omega (arith, cut.there, moves bytes at p x k is) in
         let short : length k ≡ length (drop cut.count bytes) = ap length cut.is in
-        again (xs ++ x ∷ []) k p (omega (arith, short, fewer 0 bytes cut.count most some few)) (omega (arith, short, fewer 0 bytes cut.count most' some few'))
+        again (xs ++ x ∷ []) k p (omega (arith, short, fewer bytes cut.count most some few)) (omega (arith, short, fewer bytes cut.count most' some few'))
+
+-- what is local with any room, and the same with more room than it needs, is local with room for all bytes
+pub within_room : {A : Type 0} (r : ℕ → Reader A) → ((most most' : ℕ) (bytes : List ℕ) (at : ℕ) → length bytes ≤ most → length bytes ≤ most' → r most bytes at ≡ r most' bytes at) → ((most : ℕ) → IsLocal (r most)) → IsLocal (λ bytes at. r (length bytes) bytes at)
+within_room r room local = record {
+  fault = λ bytes others at n place shares there e.
+      let most = length bytes + length others in
+      room (length others) most others at (omega arith) (omega arith) ∙ (local most).fault bytes others at n place shares there (room most (length bytes) bytes at (omega arith) (omega arith) ∙ e);
+  found = λ bytes others at n place x rest shares there e.
+      let most = length bytes + length others in
+      room (length others) most others at (omega arith) (omega arith) ∙ (local most).found bytes others at n place x rest shares there (room most (length bytes) bytes at (omega arith) (omega arith) ∙ e);
+  passed = λ bytes at place x rest e. (local (length bytes)).passed bytes at place x rest e;
+  later = λ bytes at place e. (local (length bytes)).later bytes at place e;
+}
 
 -- all lines that begin with the letter, of which there are no more than bytes
 pub all_lines_local : {A : Type 0} (letter : ℕ) (r : Reader A) → (0 == letter) ≡ false → IsLocal r → Moves r → IsLocal (λ bytes at. lines_from letter r (length bytes) [] bytes at)
-all_lines_local {A} letter r other local moves = record {
-  fault = λ bytes others at n place shares there e.
-      let most = length bytes + length others in
-      lines_room letter r other local moves (length others) most [] others at (omega arith) (omega arith)
-      ∙ (lines_local letter r local most []).fault bytes others at n place shares there (lines_room letter r other local moves most (length bytes) [] bytes at (omega arith) (omega arith) ∙ e);
-  found = λ bytes others at n place xs rest shares there e.
-      let most = length bytes + length others in
-      lines_room letter r other local moves (length others) most [] others at (omega arith) (omega arith)
-      ∙ (lines_local letter r local most []).found bytes others at n place xs rest shares there (lines_room letter r other local moves most (length bytes) [] bytes at (omega arith) (omega arith) ∙ e);
-  passed = λ bytes at place xs rest e. (lines_local letter r local (length bytes) []).passed bytes at place xs rest e;
-  later = λ bytes at place e. (lines_local letter r local (length bytes) []).later bytes at place e;
-}
+all_lines_local letter r other local moves =
+    within_room (λ most. lines_from letter r most []) (λ most most' bytes at few few'. lines_room letter r other local moves most most' [] bytes at few few') (λ most. lines_local letter r local most [])

@@ -9,7 +9,8 @@ ghost use Rattle.spec_calculus.specs.Syntax.{Protocol};
 ghost use Rattle.spec_certificate_text.specs.OfProtocol.{HasNames, IsShort};
 ghost use Rattle.spec_certificate_text.specs.Text.{fact_text, clause_text, certificate_text};
 ghost use Rattle.spec_certificate_text.specs.Outcomes.{read_number};
-ghost use Rattle.spec_certificate_text.specs.Facts.{one_term, read_hypothesis, read_conclusion};
+ghost use Rattle.spec_certificate_text.specs.Facts.{one_term, one_side};
+ghost use Rattle.spec_certificate_text.specs.Facts.{read_hypothesis, read_conclusion, read_diff};
 ghost use Rattle.spec_certificate_text.specs.Clauses.{read_clause};
 ghost use Rattle.spec_certificate_text.specs.Certificates.{read_certificate};
 ghost use Rattle.spec_certificate_text.specs.Readable.{IsHypothesisOf, IsConclusionOf};
@@ -21,8 +22,10 @@ ghost use Rattle.spec_reading_faults.specs.Syntax.{IsReportToldThere, NoReportGo
 pub fn syntax_faults_are_told_there()
     ensures numbers { IsToldThere read_number }
     ensures terms { (P : Protocol) → IsToldThere (one_term P) }
+    ensures sides { (P : Protocol) → IsToldThere (one_side P) }
     ensures hypotheses { (P : Protocol) → IsToldThere (read_hypothesis P) }
     ensures conclusions { (P : Protocol) → IsToldThere (read_conclusion P) }
+    ensures constraints { (P : Protocol) → IsToldThere (read_diff P) }
     ensures clauses { (P : Protocol) → IsToldThere (read_clause P) }
     ensures certificates { (P : Protocol) → IsToldThere (read_certificate P) }
     ensures reports { (P : Protocol) → IsReportToldThere P }

@@ -14,8 +14,12 @@ ghost use Rattle.spec_certificates.specs.Certificate.{Certificate};
 ghost use Rattle.spec_certificates.specs.Ruling.{Accepted, IsRuled};
 ghost use Rattle.spec_certificates.specs.Announcing.{announced, announcing};
 ghost use Rattle.spec_certificates.specs.Example.{kept_key, encrypting};
+ghost use Rattle.spec_certificates.specs.Remembering.{kept_secret, remembering};
 
-use spec_certificates::{a_key_is_certified, accepted_certificates_show, names_are_certified};
+use spec_certificates::{
+    a_key_is_certified, accepted_certificates_show, an_else_branch_is_certified,
+    names_are_certified,
+};
 use spec_derivations::solved_clauses_suffice;
 
 /// Secrets are kept: where it is shown of a message, or of the names of a restriction, no run of the protocol beside
@@ -69,12 +73,15 @@ pub fn accepted_queries_hold()
     queries_hold();
 }
 
-/// The worked examples: no run makes the key known, and each end is preceded by what announces its name.
+/// The worked examples: no run makes the key known, each end is preceded by what announces its name, and no run makes known
+/// what an else branch sends that never runs.
 pub fn certified_queries_hold()
     ensures secret { Holds encrypting kept_key }
     ensures correspondence { Holds announcing announced }
+    ensures otherwise { Holds remembering kept_secret }
 {
     queries_hold();
     a_key_is_certified();
     names_are_certified();
+    an_else_branch_is_certified();
 }

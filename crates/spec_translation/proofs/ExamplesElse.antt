@@ -1,6 +1,5 @@
--- Translations worked out by hand: else branches, which run where no choice gives a value that matches. Each is translated as if it could always
--- be taken; beside it stands what it adds with the constraints of its choices.
-use Rattle.std.proofs.Common.{◌≡◌, ℕ, zero, suc, true, false, Some, [], ◌∷◌, refl, ap, sym, inr, arith}
+-- Translations worked out by hand: else branches, which run where no choice gives a value that matches.
+use Rattle.std.proofs.Common.{◌≡◌, ℕ, zero, suc, true, false, Some, [], ◌∷◌, ◌++◌, refl, ap, sym, inr, arith}
 use Rattle.std.specs.List.{cons_option}
 use Rattle.spec_trees.specs.Tree.{Leaf, node, after}
 use Rattle.spec_calculus.specs.Syntax.{Variable, Bind, Equal, Process, Nil, Output, Input, Let, Secret, Protocol}
@@ -13,7 +12,6 @@ use Rattle.spec_clauses.specs.Inclusion.{here}
 use Rattle.spec_clauses.proofs.NormAnswers.{norm-none}
 use Rattle.spec_clauses.proofs.ConstraintExamples.{can, may_be_met, by_tests, and_true_end}
 use Rattle.spec_translation.specs.Conversion.{Fresh}
-use Rattle.spec_translation.specs.Otherwise.{choice_diffs}
 use Rattle.spec_translation.specs.Visit.{Visit}
 use Rattle.spec_translation.specs.Choice.{Choice, choice_under, IsUnified, ruled_choice, ChoiceGoesOn}
 use Rattle.spec_translation.specs.Course.{Done}
@@ -53,32 +51,28 @@ equals_itself = record {
   goes_on = (Leaf, record { accepted = (refl, refl); most = λ r e. (r, λ n. refl) }, refl);
 }
 
--- the constraint of its choice, `diff(v0;v0)`, is never met, and so the else branch adds nothing with it
+-- its else branch adds nothing: `diff(v0;v0)` is never met
 abbrev not_itself : Diff
 not_itself = record { left = Leaf (Own 0) ∷ []; right = Leaf (Own 0) ∷ [] }
 
-pub itself_is_excluded : choice_diffs itself received.scope (Leaf (Equal (variable 1))) (Leaf (variable 1)) ≡ not_itself ∷ []
-itself_is_excluded = refl
-
-pub never_itself : norms (record { hypotheses = Att 0 (x 0) ∷ []; diffs = not_itself ∷ []; conclusion = Att 0 (free 3) }) ≡ []
+never_itself : norms (record { hypotheses = Att 0 (x 0) ∷ []; diffs = not_itself ∷ []; conclusion = Att 0 (free 3) }) ≡ []
 never_itself =
     let raw : Clause Term = record { hypotheses = Att 0 (x 0) ∷ []; diffs = not_itself ∷ []; conclusion = Att 0 (free 3) } in
     ap (λ o. cons_option o []) ((norm-none raw).1 (inr (not_itself, ([], here), (Leaf, refl))))
 
--- its six clauses: without the constraint the else branch gives the secret away
+-- So its five clauses are those of a process that does nothing.
 pub itself_is_translated : IsTranslation itself (Secret (name 3) 0) (Clauses (
     clause [] (Att 0 (free 1)) ∷ own_names ∷ hears ∷ says
-    ∷ clause [] (Att 0 (free 3))
     ∷ clause (Att 0 (free 3) ∷ []) (Bad []) ∷ []))
 itself_is_translated = (
-  Done (clause [] (Att 0 (free 3)) ∷ []) 65531,
+  Done [] 65531,
   (
     from_zero,
     record { is_new = tt; from_first = (omega arith, tt) },
     (
       Some received ∷ [],
       (Some received, [], equals_itself, refl, refl),
-      (Done [] 65533, refl, (Done (clause [] (Att 0 (free 3)) ∷ []) 65531, (Done [] 65531, refl, refl), refl)),
+      (Done [] 65533, refl, (Done [] 65531, (Done [] 65531, refl, ap (λ cs. Done (cs ++ []) 65531) (sym never_itself)), refl)),
     ),
   ),
   refl,
@@ -115,34 +109,27 @@ equals_name = record {
 abbrev not_name : Diff
 not_name = record { left = Leaf (Own 0) ∷ []; right = node (Free 1) [] ∷ [] }
 
-pub name_is_excluded : choice_diffs compares received.scope (Leaf (Equal (name 1))) (Leaf (variable 1)) ≡ not_name ∷ []
-name_is_excluded = refl
-
 -- `att(v0), diff(v0;c) => mess(d,v0)`
 abbrev other_sent : Clause Term
 other_sent = record { hypotheses = Att 0 (x 0) ∷ []; diffs = not_name ∷ []; conclusion = Mess 0 (free 2) (x 0) }
 
-pub it_stays : norms other_sent ≡ other_sent ∷ []
+it_stays : norms other_sent ≡ other_sent ∷ []
 it_stays = ap (λ o. cons_option o []) (by_tests (Att 0 (x 0) ∷ []) not_name (Mess 0 (free 2) (x 0)) false true
     (may_be_met not_name (λ h. let e = h.1 in cc)) (and_true_end (can_be_equal not_name) (can not_name ((λ k. free 1), refl))))
 
--- and without the constraint
-abbrev sent_on : Clause Term
-sent_on = clause (Att 0 (x 0) ∷ []) (Mess 0 (free 2) (x 0))
-
 pub compares_is_translated : IsTranslation compares (Secret (name 3) 0) (Clauses (
     clause [] (Att 0 (free 1)) ∷ own_names ∷ hears ∷ says
-    ∷ sent_on
+    ∷ other_sent
     ∷ clause (Att 0 (free 3) ∷ []) (Bad []) ∷ []))
 compares_is_translated = (
-  Done (sent_on ∷ []) 65531,
+  Done (other_sent ∷ []) 65531,
   (
     from_zero,
     record { is_new = tt; from_first = (omega arith, tt) },
     (
       Some is_name ∷ [],
       (Some is_name, [], equals_name, refl, refl),
-      (Done [] 65533, refl, (Done (sent_on ∷ []) 65531, (Done [] 65531, refl, refl), refl)),
+      (Done [] 65533, refl, (Done (other_sent ∷ []) 65531, (Done [] 65531, refl, ap (λ cs. Done (cs ++ []) 65531) (sym it_stays)), refl)),
     ),
   ),
   refl,
@@ -209,10 +196,6 @@ no_cipher = record {
   right = node (Ctor 1) (Leaf (Bound 0) ∷ Leaf (Bound 1) ∷ []) ∷ Leaf (Bound 1) ∷ Leaf (Bound 2) ∷ [];
 }
 
-pub cipher_is_excluded : choice_diffs decrypts received.scope (Leaf (Bind 2)) (call 1 (variable 1 ∷ name 4 ∷ [])) ≡ no_cipher ∷ []
-cipher_is_excluded = refl
-
--- `att(v0), diff(v0,k,?0;enc(?0,?1),?1,?2) => mess(d,v0)`
 abbrev plain_sent : Clause Term
 plain_sent = record { hypotheses = Att 0 (x 0) ∷ []; diffs = no_cipher ∷ []; conclusion = Mess 0 (free 2) (x 0) }
 
@@ -222,7 +205,7 @@ cipher_values (Bound zero) = free 1
 cipher_values (Bound (suc zero)) = free 4
 cipher_values (Bound (suc (suc n))) = free 1
 
-pub it_stays_too : norms plain_sent ≡ plain_sent ∷ []
+it_stays_too : norms plain_sent ≡ plain_sent ∷ []
 it_stays_too = ap (λ o. cons_option o []) (by_tests (Att 0 (x 0) ∷ []) no_cipher (Mess 0 (free 2) (x 0)) false true
     (may_be_met no_cipher (λ h. let e = h.1 in cc)) (and_true_end (can_be_equal no_cipher) (can no_cipher (cipher_values, refl))))
 
@@ -231,17 +214,17 @@ pub decrypts_is_translated : IsTranslation decrypts (Secret (name 3) 0) (Clauses
     ∷ clause (Att 0 (x 0) ∷ Att 0 (x 1) ∷ []) (Att 0 (enc (x 0) (x 1)))
     ∷ clause (Att 0 (enc (x 0) (x 1)) ∷ Att 0 (x 1) ∷ []) (Att 0 (x 0))
     ∷ hears ∷ says
-    ∷ sent_on
+    ∷ plain_sent
     ∷ clause (Att 0 (free 3) ∷ []) (Bad []) ∷ []))
 decrypts_is_translated = (
-  Done (sent_on ∷ []) 65531,
+  Done (plain_sent ∷ []) 65531,
   (
     from_zero,
     record { is_new = tt; from_first = (omega arith, tt) },
     (
       Some is_cipher ∷ [],
       (Some is_cipher, [], is_decrypted, refl, refl),
-      (Done [] 65533, refl, (Done (sent_on ∷ []) 65531, (Done [] 65531, refl, refl), refl)),
+      (Done [] 65533, refl, (Done (plain_sent ∷ []) 65531, (Done [] 65531, refl, ap (λ cs. Done (cs ++ []) 65531) (sym it_stays_too)), refl)),
     ),
   ),
   refl,

@@ -1,5 +1,5 @@
 -- Translations worked out by hand: names over messages and sessions, private constructors, all branches of a `let`, variables of goals.
-use Rattle.std.proofs.Common.{◌≡◌, ◌∙◌, ℕ, zero, suc, false, Some, List, [], ◌∷◌, refl, ap, inr, arith}
+use Rattle.std.proofs.Common.{◌≡◌, ◌∙◌, ℕ, zero, suc, false, Some, List, [], ◌∷◌, ◌++◌, refl, ap, sym, inr, arith}
 use Rattle.std.specs.List.{cons_option}
 use Rattle.spec_trees.specs.Tree.{Leaf, node, after}
 use Rattle.spec_calculus.specs.Syntax.{Made, Tuple, Bind, Nil, Output, Input, Replication, New, Let, Event, Rule, EventTerm, Secret, SecretNew, Correspondence, Protocol}
@@ -11,7 +11,6 @@ use Rattle.spec_clauses.specs.Norm.{norms}
 use Rattle.spec_clauses.specs.Inclusion.{here}
 use Rattle.spec_clauses.proofs.NormAnswers.{norm-none}
 use Rattle.spec_translation.specs.Goal.{event_variables}
-use Rattle.spec_translation.specs.Otherwise.{choice_diffs}
 use Rattle.spec_translation.specs.Visit.{first_visit}
 use Rattle.spec_translation.specs.Choice.{Choice, choice_under, IsUnified, ruled_choice, ChoiceGoesOn}
 use Rattle.spec_translation.specs.Course.{Done}
@@ -124,21 +123,14 @@ first_branch = clause [] (Att 0 (h (free 1) (free 2)))
 abbrev second_branch : Clause Term
 second_branch = clause [] (Att 0 (h (h (free 1) (free 1)) (free 2)))
 
-abbrev else_branch : Clause Term
-else_branch = clause [] (Att 0 (h (free 2) (free 2)))
-
--- With the constraints of its choices the else branch adds nothing: the first rule gives a value, and the variable takes any. So
--- `diff(c,?0;?0,?1)` is never met.
+-- The else branch adds nothing: the first rule gives a value, and the variable takes any. So `diff(c,?0;?0,?1)` is never met.
 abbrev no_value : Diff
 no_value = record { left = node (Free 1) [] ∷ Leaf (Bound 0) ∷ []; right = Leaf (Bound 0) ∷ Leaf (Bound 1) ∷ [] }
 
 abbrev no_pair : Diff
 no_pair = record { left = node (Free 1) [] ∷ node (Ctor 1) (Leaf (Bound 0) ∷ Leaf (Bound 0) ∷ []) ∷ []; right = Leaf (Bound 0) ∷ Leaf (Bound 1) ∷ [] }
 
-pub both_are_excluded : choice_diffs branches [] (Leaf (Bind 1)) (call 1 (name 1 ∷ [])) ≡ no_value ∷ no_pair ∷ []
-both_are_excluded = refl
-
-pub never_otherwise : norms (record { hypotheses = []; diffs = no_value ∷ no_pair ∷ []; conclusion = Att 0 (h (free 2) (free 2)) }) ≡ []
+never_otherwise : norms (record { hypotheses = []; diffs = no_value ∷ no_pair ∷ []; conclusion = Att 0 (h (free 2) (free 2)) }) ≡ []
 never_otherwise =
     let raw : Clause Term = record { hypotheses = []; diffs = no_value ∷ no_pair ∷ []; conclusion = Att 0 (h (free 2) (free 2)) } in
     ap (λ o. cons_option o []) ((norm-none raw).1 (inr (no_value, (no_pair ∷ [], here), ((λ i. free 1), refl))))
@@ -148,12 +140,12 @@ pub branches_are_translated : IsTranslation branches (Secret (name 2) 0) (Clause
     clause [] (Att 0 (free 1)) ∷ own_names
     ∷ clause (Att 0 (x 0) ∷ Att 0 (x 1) ∷ []) (Att 0 (h (x 0) (x 1)))
     ∷ clause (Att 0 (x 0) ∷ []) (Att 0 (h (x 0) (x 0)))
-    ∷ hears ∷ says ∷ first_branch ∷ second_branch ∷ else_branch
+    ∷ hears ∷ says ∷ first_branch ∷ second_branch
     ∷ clause (Att 0 (free 2) ∷ []) (Bad []) ∷ []))
 branches_are_translated =
     let first = with_value (free 1) in
     let second = with_value (h (free 1) (free 1)) in (
-      Done (first_branch ∷ second_branch ∷ else_branch ∷ []) 65529,
+      Done (first_branch ∷ second_branch ∷ []) 65529,
       (
         Some first ∷ Some second ∷ [],
         (Some first, Some second ∷ [], same_goes, (Some second, [], pair_goes, refl, refl), refl),
@@ -161,11 +153,11 @@ branches_are_translated =
           Done (first_branch ∷ []) 65533,
           (Done [] 65533, refl, refl),
           (
-            Done (second_branch ∷ else_branch ∷ []) 65529,
+            Done (second_branch ∷ []) 65529,
             (
               Done (second_branch ∷ []) 65531,
               (Done [] 65531, refl, refl),
-              (Done (else_branch ∷ []) 65529, (Done [] 65529, refl, refl), refl),
+              (Done [] 65529, (Done [] 65529, refl, ap (λ cs. Done (cs ++ []) 65529) (sym never_otherwise)), refl),
             ),
             refl,
           ),

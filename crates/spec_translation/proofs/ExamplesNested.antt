@@ -1,5 +1,5 @@
 -- Translations worked out by hand: destructors in one another.
-use Rattle.std.proofs.Common.{◌≡◌, ℕ, zero, suc, true, false, ◌&&◌, None, Some, [], ◌∷◌, refl, ap, arith}
+use Rattle.std.proofs.Common.{◌≡◌, ℕ, zero, suc, true, false, ◌&&◌, None, Some, [], ◌∷◌, ◌++◌, refl, ap, sym, arith}
 use Rattle.std.specs.List.{cons_option}
 use Rattle.spec_trees.specs.Tree.{Leaf, node, after}
 use Rattle.spec_calculus.specs.Syntax.{Variable, Bind, Calls, Expression, Ruled, Nil, Output, Input, Parallel, Let, Secret, Protocol}
@@ -9,7 +9,6 @@ use Rattle.spec_clauses.specs.Diff.{Bound, Diff}
 use Rattle.spec_clauses.specs.Norm.{norms}
 use Rattle.spec_clauses.proofs.ConstraintExamples.{cannot, may_be_met, by_tests}
 use Rattle.spec_translation.specs.Conversion.{Fresh}
-use Rattle.spec_translation.specs.Otherwise.{choice_diffs}
 use Rattle.spec_translation.specs.Visit.{Visit, first_visit}
 use Rattle.spec_translation.specs.Choice.{Choice, choice_under, IsUnified, ruled_choice, ChoiceGoesOn}
 use Rattle.spec_translation.specs.Course.{Done}
@@ -172,17 +171,14 @@ nothing_goes_on = record {
   goes_on = λ s e. let clash = e.0 in cc;
 }
 
--- The constraint of its choice, `diff(enc(c,k),k,?0,k,?1;enc(?0,?2),?2,enc(?1,?3),?3,?4)`, can't be equal, and with it the clause of the else branch is as without it.
+-- The constraint of its else branch, `diff(enc(c,k),k,?0,k,?1;enc(?0,?2),?2,enc(?1,?3),?3,?4)`, can't be equal, and is dropped.
 abbrev not_twice : Diff
 not_twice = record {
   left = node (Ctor 1) (node (Free 1) [] ∷ node (Free 2) [] ∷ []) ∷ node (Free 2) [] ∷ Leaf (Bound 0) ∷ node (Free 2) [] ∷ Leaf (Bound 1) ∷ [];
   right = node (Ctor 1) (Leaf (Bound 0) ∷ Leaf (Bound 2) ∷ []) ∷ Leaf (Bound 2) ∷ node (Ctor 1) (Leaf (Bound 1) ∷ Leaf (Bound 3) ∷ []) ∷ Leaf (Bound 3) ∷ Leaf (Bound 4) ∷ [];
 }
 
-pub it_is_excluded : choice_diffs no_value [] (Leaf (Bind 1)) (opened (opened (Leaf (apply 1 (name 1 ∷ name 2 ∷ []))) (Leaf (name 2))) (Leaf (name 2))) ≡ not_twice ∷ []
-it_is_excluded = refl
-
-pub it_is_dropped : norms (record { hypotheses = []; diffs = not_twice ∷ []; conclusion = Att 0 (free 1) }) ≡ clause [] (Att 0 (free 1)) ∷ []
+it_is_dropped : norms (record { hypotheses = []; diffs = not_twice ∷ []; conclusion = Att 0 (free 1) }) ≡ clause [] (Att 0 (free 1)) ∷ []
 it_is_dropped = ap (λ o. cons_option o []) (by_tests [] not_twice (Att 0 (free 1)) false false (may_be_met not_twice (λ h. let e = h.1 in cc)) (ap (λ b. b && true) (cannot not_twice (λ h. let e = h.1 in cc))))
 
 -- only the else branch is visited
@@ -195,6 +191,6 @@ pub no_value_is_translated : IsTranslation no_value (Secret (name 2) 0) (Clauses
     ∷ clause (Att 0 (free 2) ∷ []) (Bad []) ∷ []))
 no_value_is_translated = (
   Done (clause [] (Att 0 (free 1)) ∷ []) 65533,
-  (None ∷ [], (None, [], nothing_goes_on, refl, refl), (Done [] 65533, refl, refl)),
+  (None ∷ [], (None, [], nothing_goes_on, refl, refl), (Done [] 65533, refl, ap (λ cs. Done (cs ++ []) 65533) (sym it_is_dropped))),
   refl,
 )

@@ -1,5 +1,5 @@
 -- Translations worked out by hand: no process, private and public channels, data patterns, and rules that do not unify.
-use Rattle.std.proofs.Common.{◌≡◌, false, true, ◌&&◌, None, [], ◌∷◌, refl, ap, arith}
+use Rattle.std.proofs.Common.{◌≡◌, false, true, ◌&&◌, None, [], ◌∷◌, ◌++◌, refl, ap, sym, arith}
 use Rattle.std.specs.List.{cons_option}
 use Rattle.spec_trees.specs.Tree.{Leaf, node}
 use Rattle.spec_calculus.specs.Syntax.{Constructor, Bind, Equal, Nil, Output, Input, Parallel, Let, Secret, Protocol}
@@ -9,7 +9,6 @@ use Rattle.spec_clauses.specs.Diff.{Bound, Diff}
 use Rattle.spec_clauses.specs.Norm.{norms}
 use Rattle.spec_clauses.proofs.ConstraintExamples.{cannot, may_be_met, by_tests}
 use Rattle.spec_translation.specs.Conversion.{Fresh}
-use Rattle.spec_translation.specs.Otherwise.{choice_diffs}
 use Rattle.spec_translation.specs.Visit.{first_visit}
 use Rattle.spec_translation.specs.Choice.{ChoiceGoesOn}
 use Rattle.spec_translation.specs.Course.{Done}
@@ -115,17 +114,14 @@ nothing_is_decrypted = record {
   goes_on = λ s e. let clash = e.0 in cc;
 }
 
--- The constraint of its choice, `diff(c,k,?0;enc(?0,?1),?1,?2)`, can't be equal, and with it the clause of the else branch is as without it.
+-- The constraint of its else branch, `diff(c,k,?0;enc(?0,?1),?1,?2)`, can't be equal, and is dropped.
 abbrev not_decrypted : Diff
 not_decrypted = record {
   left = node (Free 1) [] ∷ node (Free 2) [] ∷ Leaf (Bound 0) ∷ [];
   right = node (Ctor 1) (Leaf (Bound 0) ∷ Leaf (Bound 1) ∷ []) ∷ Leaf (Bound 1) ∷ Leaf (Bound 2) ∷ [];
 }
 
-pub it_is_excluded : choice_diffs no_instance [] (Leaf (Bind 1)) (call 1 (name 1 ∷ name 2 ∷ [])) ≡ not_decrypted ∷ []
-it_is_excluded = refl
-
-pub it_is_dropped : norms (record { hypotheses = []; diffs = not_decrypted ∷ []; conclusion = Att 0 (free 1) }) ≡ clause [] (Att 0 (free 1)) ∷ []
+it_is_dropped : norms (record { hypotheses = []; diffs = not_decrypted ∷ []; conclusion = Att 0 (free 1) }) ≡ clause [] (Att 0 (free 1)) ∷ []
 it_is_dropped = ap (λ o. cons_option o []) (by_tests [] not_decrypted (Att 0 (free 1)) false false (may_be_met not_decrypted (λ h. let e = h.1 in cc)) (ap (λ b. b && true) (cannot not_decrypted (λ h. let e = h.1 in cc))))
 
 -- Only the else branch is visited, which adds `=> att(c)` once more.
@@ -138,6 +134,6 @@ pub no_instance_is_translated : IsTranslation no_instance (Secret (name 2) 0) (C
     ∷ clause (Att 0 (free 2) ∷ []) (Bad []) ∷ []))
 no_instance_is_translated = (
   Done (clause [] (Att 0 (free 1)) ∷ []) 65533,
-  (None ∷ [], (None, [], nothing_is_decrypted, refl, refl), (Done [] 65533, refl, refl)),
+  (None ∷ [], (None, [], nothing_is_decrypted, refl, refl), (Done [] 65533, refl, ap (λ cs. Done (cs ++ []) 65533) (sym it_is_dropped))),
   refl,
 )

@@ -1,8 +1,10 @@
 pub mod Conversions
 pub mod Visits
 pub mod Applied
+pub mod Below
 pub mod Fresh
 pub mod Otherwise
+pub mod InTerms
 pub mod Fitting
 pub mod Choices
 pub mod Courses

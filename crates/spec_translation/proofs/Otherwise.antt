@@ -1,5 +1,5 @@
 -- The constraints of an else branch under a substitution of the visit.
-use Rattle.std.proofs.Common.{◌≡◌, ◌∙◌, ℕ, ◌+◌, Bool, true, false, cond, List, [], ◌∷◌, ◌++◌, map, refl, ap, sym}
+use Rattle.std.proofs.Common.{◌≡◌, ◌∙◌, ℕ, ◌+◌, List, [], ◌∷◌, ◌++◌, map, refl, ap, sym}
 use Rattle.std.specs.Prelude.{filter}
 use Rattle.std.specs.List.{AllByRecursion}
 use Rattle.std.proofs.lemmas.List.{map-append}
@@ -15,7 +15,7 @@ use Rattle.spec_clauses.proofs.DiffNumbering.{numbered-under}
 use Rattle.spec_translation.specs.Conversion.{Scope, term_in}
 use Rattle.spec_translation.specs.Visit.{Visit, standing_under, visit_under}
 use Rattle.spec_translation.specs.Applied.{width, fits, ruled_term, ruled_arguments, ruled_sides}
-use Rattle.spec_translation.specs.Otherwise.{own_side, rule_slot, rule_side, hole_side, pattern_side, choice_sides, choice_diff, choice_diffs, are_else_branches_precise, else_diffs, otherwise_visit}
+use Rattle.spec_translation.specs.Otherwise.{own_side, rule_slot, rule_side, hole_side, pattern_side, choice_sides, choice_diff, choice_diffs, otherwise_visit}
 use Rattle.spec_translation.proofs.Conversions.{converted-bind, converted-same, term_in-under}
 use Rattle.spec_translation.proofs.Applied.{ruled_term_moved, ruled_arguments_moved, ruled_sides_moved}
 
@@ -67,17 +67,10 @@ module _ (P : Protocol) (s : Subst) (scope : Scope) where
   pub choice_diffs-under : (pattern : Pattern) (expression : Expression) → map (diff_under s) (choice_diffs P scope pattern expression) ≡ choice_diffs P (map (standing_under s) scope) pattern expression
   choice_diffs-under pattern expression = each_choice_diff-under pattern (filter fits (map (λ c. c.ruled) (choices P expression)))
 
-  -- what an else branch adds, with constraints or without
-  pub else_diffs-under : (pattern : Pattern) (expression : Expression) → map (diff_under s) (else_diffs P scope pattern expression) ≡ else_diffs P (map (standing_under s) scope) pattern expression
-  else_diffs-under pattern expression = either are_else_branches_precise where
-    either : (precise : Bool) → map (diff_under s) (cond precise (choice_diffs P scope pattern expression) []) ≡ cond precise (choice_diffs P (map (standing_under s) scope) pattern expression) []
-    either true = choice_diffs-under pattern expression
-    either false = refl
-
 -- the visit of the else branch
 pub otherwise_visit-under : (P : Protocol) (s : Subst) (v : Visit) (pattern : Pattern) (expression : Expression) → visit_under s (otherwise_visit P v pattern expression) ≡ otherwise_visit P (visit_under s v) pattern expression
 otherwise_visit-under P s v pattern expression =
     let w = visit_under s v in
-    let new = else_diffs-under P s v.scope pattern expression in
-    let diffs = map-append (diff_under s) v.diffs (else_diffs P v.scope pattern expression) ∙ (λ i. w.diffs ++ new i) in
+    let new = choice_diffs-under P s v.scope pattern expression in
+    let diffs = map-append (diff_under s) v.diffs (choice_diffs P v.scope pattern expression) ∙ (λ i. w.diffs ++ new i) in
     λ i. record { scope = w.scope; hypotheses = w.hypotheses; diffs = diffs i; messages = w.messages; sessions = w.sessions; phase = v.phase }

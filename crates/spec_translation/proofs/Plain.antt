@@ -1,6 +1,6 @@
--- A protocol without phases and tables: each fact of its clauses is of phase 0, no clause has constraints, and the attacker does what he does in phase 0 alone.
+-- A protocol without phases and tables: each fact of its clauses is of phase 0, and the attacker does what he does in phase 0 alone.
 use Rattle.std.proofs.Common.{◌≡◌, ◌∙◌, ℕ, ◌+◌, true, false, ◌&&◌, ◌||◌, cond, List, [], ◌∷◌, ◌++◌, map, refl, ap, sym, subst, ⊎_elim}
-use Rattle.std.specs.Prelude.{nat_eq, filter, flat_map, filter_map}
+use Rattle.std.specs.Prelude.{nat_eq, filter_map}
 use Rattle.std.specs.List.{AllByRecursion, list_all, enumerate_from}
 use Rattle.std.proofs.lemmas.List.{append-nil}
 use Rattle.spec_calculus.specs.Syntax.{Process, Nil, Output, Input, Parallel, Replication, New, Let, Event, Phase, Insert, Get, Query, Secret, SecretNew, Correspondence, Protocol}
@@ -9,17 +9,11 @@ use Rattle.spec_calculus.specs.Bounds.{most_visits}
 use Rattle.spec_calculus.proofs.Plain.{plain_greatest}
 use Rattle.spec_terms.specs.Term.{Term, Subst}
 use Rattle.spec_clauses.specs.Fact.{Fact, Att, Mess, Tab, Ev, Mev, Bad, Clause, outline}
-use Rattle.spec_clauses.specs.Diff.{diff_under, numbered_diff, same_diff}
-use Rattle.spec_clauses.specs.Variables.{clause_variables}
-use Rattle.spec_clauses.specs.Flat.{flat, flat_parts}
-use Rattle.spec_clauses.specs.Norm.{norms, numbering, distinct, is_needed}
+use Rattle.spec_clauses.specs.Norm.{norms}
 use Rattle.spec_clauses.specs.Limits.{is_large_raw}
 use Rattle.spec_clauses.specs.Inclusion.{Has}
-use Rattle.spec_clauses.proofs.Inclusion.{Has-append, Has-map_source, Has-flat_map_source}
+use Rattle.spec_clauses.proofs.Inclusion.{Has-append, Has-flat_map_source}
 use Rattle.spec_clauses.proofs.Lists.{all_append}
-use Rattle.spec_clauses.proofs.Norm.{few, simplified, norm_made}
-use Rattle.spec_clauses.proofs.NormKeeps.{generalized_or}
-use Rattle.spec_clauses.proofs.NormAnswers.{norms-source}
 use Rattle.spec_translation.specs.Conversion.{term_in, rule_term, pattern_term}
 use Rattle.spec_translation.specs.Attacker.{name_known, fresh_known, done_in, done_after, attacker_raw}
 use Rattle.spec_translation.specs.Goal.{goal_raw}
@@ -58,46 +52,26 @@ known_plain f (x ∷ xs) = known_plain f xs
 attacker_plain : (P : Protocol) → AllByRecursion IsPlainClause (plain_attacker P)
 attacker_plain P =
     all_append IsPlainClause (filter_map name_known (enumerate_from 1 P.frees)) (fresh_known ∷ done_in P 0)
-    (names_all IsPlainClause (λ number. record { hypotheses = refl; no_diffs = refl; conclusion = refl }) (enumerate_from 1 P.frees)) (
-      record { hypotheses = refl; no_diffs = refl; conclusion = refl },
-      done_all IsPlainClause P 0 (λ number arguments. record { hypotheses = known_plain (λ t. t) arguments; no_diffs = refl; conclusion = refl })
-          (λ rule. record { hypotheses = known_plain (rule_term P 0) rule.left; no_diffs = refl; conclusion = refl })
-          (record { hypotheses = refl; no_diffs = refl; conclusion = refl }) (record { hypotheses = refl; no_diffs = refl; conclusion = refl }),
+    (names_all IsPlainClause (λ number. record { hypotheses = refl; conclusion = refl }) (enumerate_from 1 P.frees)) (
+      record { hypotheses = refl; conclusion = refl },
+      done_all IsPlainClause P 0 (λ number arguments. record { hypotheses = known_plain (λ t. t) arguments; conclusion = refl })
+          (λ rule. record { hypotheses = known_plain (rule_term P 0) rule.left; conclusion = refl })
+          (record { hypotheses = refl; conclusion = refl }) (record { hypotheses = refl; conclusion = refl }),
     )
-
--- A clause without constraints has norms without them.
-
-part_diffs : (c part : Clause Term) → Has (flat_parts c) part → part.diffs ≡ c.diffs
-part_diffs c part listed =
-    let (f, there, same) = Has-map_source (λ f. record { hypotheses = flat_map flat c.hypotheses; diffs = c.diffs; conclusion = f }) (flat c.conclusion) part listed in
-    ap (λ d. d.diffs) same
-
-simplified_diffs : (c : Clause Term) → c.diffs ≡ [] → (simplified c).diffs ≡ []
-simplified_diffs c empty = generalized_or (few c) (λ d. d.diffs ≡ []) (λ x e. refl) (ap (filter (is_needed c)) empty)
-
-pub norms_diffs : (c d : Clause Term) → c.diffs ≡ [] → Has (norms c) d → d.diffs ≡ []
-norms_diffs c d empty listed =
-    let (part, there, is) = norms-source c d listed in
-    let plain = simplified part in
-    let left = simplified_diffs part (part_diffs c part there ∙ empty) in
-    ap (λ e. e.diffs) (norm_made part d is).1
-    ∙ ap (λ ds. distinct same_diff (map numbered_diff (map (diff_under (numbering (clause_variables plain))) ds))) left
 
 norms_plain : (raw c : Clause Term) → IsPlainClause raw → Has (norms raw) c → IsPlainClause c
 norms_plain raw c plain h = record {
   hypotheses = norms-told is_plain plain_told raw c plain.hypotheses h;
-  no_diffs = norms_diffs raw c plain.no_diffs h;
   conclusion = plain_told c.conclusion raw.conclusion (norms-outline raw c h) ∙ plain.conclusion;
 }
 
--- a visit in phase 0, with such hypotheses and without constraints
+-- a visit in phase 0, with such hypotheses
 record IsPlainVisit (v : Visit) : Type 0 where
   hypotheses : list_all is_plain v.hypotheses ≡ true
   phase : v.phase ≡ 0
-  no_diffs : v.diffs ≡ []
 
 plain-under : (s : Subst) (v : Visit) → IsPlainVisit v → IsPlainVisit (visit_under s v)
-plain-under s v k = record { hypotheses = all_told-under is_plain plain_told s v.hypotheses ∙ k.hypotheses; phase = k.phase; no_diffs = ap (map (diff_under s)) k.no_diffs }
+plain-under s v k = record { hypotheses = all_told-under is_plain plain_told s v.hypotheses ∙ k.hypotheses; phase = k.phase }
 
 sent_plain : (P : Protocol) (phase : ℕ) (channel message : Term) → phase ≡ 0 → is_plain (sent P phase channel message) ≡ true
 sent_plain P phase channel message e =
@@ -114,7 +88,7 @@ plain_gives P (Output channel message next) plain point v k =
     let raw = raw_clause v fact in
     let large = evaluates_large P v (Output channel message next) || is_large_raw raw in
     let R = Adds (norms raw) (Visited P next (point + 1) v) in
-    let own : IsPlainClause raw = record { hypotheses = k.hypotheses; no_diffs = k.no_diffs; conclusion = sent_plain P v.phase (term_in P v.scope channel) (term_in P v.scope message) k.phase } in
+    let own : IsPlainClause raw = record { hypotheses = k.hypotheses; conclusion = sent_plain P v.phase (term_in P v.scope channel) (term_in P v.scope message) k.phase } in
     counted_gives IsPlainClause point (Unless large point R) (unless_gives IsPlainClause large point R (λ small.
     adds_gives IsPlainClause (norms raw) (Visited P next (point + 1) v) (λ c. norms_plain raw c own) (plain_gives P next plain (point + 1) v k)))
 plain_gives P (Input channel pattern next) plain point v k =
@@ -124,7 +98,7 @@ plain_gives P (Input channel pattern next) plain point v k =
     let w = after_input P v channel pattern x.0 in
     let message = pattern_term P v.scope x.0 pattern in
     let fact = sent P v.phase (term_in P v.scope channel) message in
-    let own : IsPlainVisit w = record { hypotheses = plain_more v fact k (sent_plain P v.phase (term_in P v.scope channel) message k.phase); phase = k.phase; no_diffs = k.no_diffs } in
+    let own : IsPlainVisit w = record { hypotheses = plain_more v fact k (sent_plain P v.phase (term_in P v.scope channel) message k.phase); phase = k.phase } in
     unless_gives IsPlainClause (is_large_visit w) point (Visited P next (point + 1) w) (λ fits. plain_gives P next plain (point + 1) w own) left rest clauses x.2 c h))
 plain_gives P (Parallel left right) plain point v k =
     let R = Visited P left (point + 1) v in
@@ -132,11 +106,11 @@ plain_gives P (Parallel left right) plain point v k =
     counted_gives IsPlainClause point (Then R S) (then_gives IsPlainClause R S (plain_gives P left plain.0 (point + 1) v k) (plain_gives P right plain.1 (point_after (point + 1) left) v k))
 plain_gives P (Replication copied) plain point v k =
     counted_gives IsPlainClause point (Copied v (λ w. Visited P copied (point + 1) w))
-    (λ left rest clauses x c h. plain_gives P copied plain (point + 1) (after_copy v x.0) (record { hypotheses = k.hypotheses; phase = k.phase; no_diffs = k.no_diffs }) left rest clauses x.2 c h)
+    (λ left rest clauses x c h. plain_gives P copied plain (point + 1) (after_copy v x.0) (record { hypotheses = k.hypotheses; phase = k.phase }) left rest clauses x.2 c h)
 plain_gives P (New word next) plain point v k =
     let w = after_new v point in
     counted_gives IsPlainClause point (Unless (is_large_visit w) point (Visited P next (point + 1) w))
-    (unless_gives IsPlainClause (is_large_visit w) point (Visited P next (point + 1) w) (λ small. plain_gives P next plain (point + 1) w (record { hypotheses = k.hypotheses; phase = k.phase; no_diffs = k.no_diffs })))
+    (unless_gives IsPlainClause (is_large_visit w) point (Visited P next (point + 1) w) (λ small. plain_gives P next plain (point + 1) w (record { hypotheses = k.hypotheses; phase = k.phase })))
 plain_gives P (Let pattern expression next otherwise) plain point v k =
     let R = λ (w : Visit). Visited P next (point + 1) w in
     let w_else = otherwise_visit P v pattern expression in
@@ -144,25 +118,25 @@ plain_gives P (Let pattern expression next otherwise) plain point v k =
     let C = Chosen P v pattern expression point R T in
     let large = evaluates_large P v (Let pattern expression next otherwise) in
     counted_gives IsPlainClause point (Unless large point C) (unless_gives IsPlainClause large point C (λ small left rest clauses x c h.
-    let ways = ways_kept IsPlainVisit plain-under P v pattern (λ at. record { hypotheses = k.hypotheses; phase = k.phase; no_diffs = k.no_diffs }) expression x.0 x.1 in
+    let ways = ways_kept IsPlainVisit plain-under P v pattern (λ at. record { hypotheses = k.hypotheses; phase = k.phase }) expression x.0 x.1 in
     let each = each_kept_gives IsPlainVisit plain-under R IsPlainClause (λ w own. plain_gives P next plain.0 (point + 1) w own) x.0 ways in
-    unless_gives IsPlainClause (some_large x.0) point (EachThen R x.0 T) (λ fits. each_gives IsPlainClause R T (plain_gives P otherwise plain.1 (point_after (point + 1) next) w_else (record { hypotheses = k.hypotheses; phase = k.phase; no_diffs = ap (λ ds. ds ++ []) k.no_diffs })) x.0 each) left rest clauses x.2 c h))
+    unless_gives IsPlainClause (some_large x.0) point (EachThen R x.0 T) (λ fits. each_gives IsPlainClause R T (plain_gives P otherwise plain.1 (point_after (point + 1) next) w_else (record { hypotheses = k.hypotheses; phase = k.phase })) x.0 each) left rest clauses x.2 c h))
 plain_gives P (Event performed next) plain point v k =
     let raw = raw_clause v (Ev performed.event (event_terms P v performed)) in
     let w = after_event P v performed in
     let large = evaluates_large P v (Event performed next) || (is_large_raw raw || is_large_visit w) in
     let R = Adds (norms raw) (Visited P next (point + 1) w) in
-    let own : IsPlainVisit w = record { hypotheses = plain_more v (Mev performed.event (event_terms P v performed)) k refl; phase = k.phase; no_diffs = k.no_diffs } in
+    let own : IsPlainVisit w = record { hypotheses = plain_more v (Mev performed.event (event_terms P v performed)) k refl; phase = k.phase } in
     counted_gives IsPlainClause point (Unless large point R) (unless_gives IsPlainClause large point R (λ small.
-    adds_gives IsPlainClause (norms raw) (Visited P next (point + 1) w) (λ c. norms_plain raw c (record { hypotheses = k.hypotheses; no_diffs = k.no_diffs; conclusion = refl })) (plain_gives P next plain (point + 1) w own)))
+    adds_gives IsPlainClause (norms raw) (Visited P next (point + 1) w) (λ c. norms_plain raw c (record { hypotheses = k.hypotheses; conclusion = refl })) (plain_gives P next plain (point + 1) w own)))
 plain_gives P (Phase number next) plain point v k = absurd plain
 plain_gives P (Insert table arguments next) plain point v k = absurd plain
 plain_gives P (Get table patterns condition next otherwise) plain point v k = absurd plain
 
 goal_plain : (P : Protocol) (q : Query) → IsPlainQuery q → IsPlainClause (goal_raw P q)
-goal_plain P (Secret message phase) plain = let same : (nat_eq phase 0 && true) ≡ true = ap (λ k. nat_eq k 0 && true) plain in record { hypotheses = same; no_diffs = refl; conclusion = refl }
-goal_plain P (SecretNew point phase) plain = let same : (nat_eq phase 0 && true) ≡ true = ap (λ k. nat_eq k 0 && true) plain in record { hypotheses = same; no_diffs = refl; conclusion = refl }
-goal_plain P (Correspondence left alternatives) plain = record { hypotheses = refl; no_diffs = refl; conclusion = refl }
+goal_plain P (Secret message phase) plain = let same : (nat_eq phase 0 && true) ≡ true = ap (λ k. nat_eq k 0 && true) plain in record { hypotheses = same; conclusion = refl }
+goal_plain P (SecretNew point phase) plain = let same : (nat_eq phase 0 && true) ≡ true = ap (λ k. nat_eq k 0 && true) plain in record { hypotheses = same; conclusion = refl }
+goal_plain P (Correspondence left alternatives) plain = record { hypotheses = refl; conclusion = refl }
 
 -- So is each clause of its translation.
 pub clauses_plain : (P : Protocol) (q : Query) (all : List (Clause Term)) (c : Clause Term) → IsPlain P.main → IsPlainQuery q → IsTranslation P q (Clauses all) → Has all c → IsPlainClause c
@@ -180,5 +154,5 @@ clauses_plain P q all c plain asked translated has = go translated.0 translated.
       let there = subst (λ cs. Has cs c) same has in
       let later = clauses ++ goal_clauses P q in
       ⊎_elim of_attacker
-      (λ k. ⊎_elim (plain_gives P P.main plain 1 first_visit (record { hypotheses = refl; phase = refl; no_diffs = refl }) most_visits left clauses visited c) (norms_plain (goal_raw P q) c (goal_plain P q asked)) ((Has-append clauses (goal_clauses P q) c).0 k))
+      (λ k. ⊎_elim (plain_gives P P.main plain 1 first_visit (record { hypotheses = refl; phase = refl }) most_visits left clauses visited c) (norms_plain (goal_raw P q) c (goal_plain P q asked)) ((Has-append clauses (goal_clauses P q) c).0 k))
       ((Has-append (attacker_clauses P) later c).0 there)

@@ -4,6 +4,7 @@ pub mod Goal
 pub mod Visit
 pub mod Applied
 pub mod Otherwise
+pub mod InTerms
 pub mod Choice
 pub mod Course
 pub mod Visited

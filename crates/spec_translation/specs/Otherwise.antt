@@ -1,7 +1,7 @@
 -- The else branch of a `let`: it runs where no choice of rules gives a value that matches the pattern. What that excludes is a constraint
 -- for each choice, which binds the variables of the rules and of the pattern (Blanchet, Abadi and Fournet 2008, section 5: the predicate
 -- `nounif` for the failure of a destructor).
-use Rattle.std.specs.Prelude.{ℕ, ◌+◌, ◌-◌, Bool, false, cond, List, [], ◌∷◌, ◌++◌, map, filter}
+use Rattle.std.specs.Prelude.{ℕ, ◌+◌, ◌-◌, List, [], ◌∷◌, ◌++◌, map, filter}
 use Rattle.spec_trees.specs.Tree.{Leaf}
 use Rattle.spec_calculus.specs.Syntax.{Name, Made, Variable, Hole, Bind, Equal, Pattern, Expression, Ruled, Protocol}
 use Rattle.spec_calculus.specs.Syntax as calculus
@@ -46,14 +46,6 @@ choice_diff P scope pattern ruled = numbered_diff (choice_sides P scope pattern 
 abbrev pub choice_diffs : Protocol → Scope → Pattern → Expression → List Diff
 choice_diffs P scope pattern expression = map (choice_diff P scope pattern) (filter fits (map (λ c. c.ruled) (choices P expression)))
 
--- Whether else branches have their constraints. They have none: an else branch is translated as if it could always be taken, which
--- loses nothing but precision. Each law about visits holds for either answer.
-abbrev pub are_else_branches_precise : Bool
-are_else_branches_precise = false
-
--- what the visit of an else branch adds
-abbrev pub else_diffs : Protocol → Scope → Pattern → Expression → List Diff
-else_diffs P scope pattern expression = cond are_else_branches_precise (choice_diffs P scope pattern expression) []
-
+-- the visit of an else branch has them besides
 abbrev pub otherwise_visit : Protocol → Visit → Pattern → Expression → Visit
-otherwise_visit P v pattern expression = record v { diffs = v.diffs ++ else_diffs P v.scope pattern expression }
+otherwise_visit P v pattern expression = record v { diffs = v.diffs ++ choice_diffs P v.scope pattern expression }

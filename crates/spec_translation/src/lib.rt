@@ -14,6 +14,7 @@ ghost use Rattle.spec_well_formed.specs.Signature.{signature_of};
 ghost use Rattle.spec_well_formed.specs.Terms.{EachSymbol, TakesParts};
 ghost use Rattle.spec_terms.specs.Term.{Term, Subst};
 ghost use Rattle.spec_clauses.specs.Fact.{Clause};
+ghost use Rattle.spec_clauses.specs.Shown.{diff_shown};
 ghost use Rattle.spec_clauses.specs.Variables.{leaves, fact_variables, all_terms, AreBelow};
 ghost use Rattle.spec_clauses.specs.Norm.{IsNormal};
 ghost use Rattle.spec_clauses.specs.Limits.{is_large_raw, IsWithinLimit};
@@ -21,7 +22,8 @@ ghost use Rattle.spec_clauses.specs.Inclusion.{Has};
 ghost use Rattle.spec_translation.specs.Conversion.{Scope, StandsFor, term_in, rule_term};
 ghost use Rattle.spec_translation.specs.Visit.{Visit, bound, visit_terms, is_large_visit};
 ghost use Rattle.spec_translation.specs.Applied.{ruled_arguments, ruled_sides};
-ghost use Rattle.spec_translation.specs.Otherwise.{choice_diff, choice_diffs};
+ghost use Rattle.spec_translation.specs.InTerms.{choice_in_terms};
+ghost use Rattle.spec_translation.specs.Otherwise.{choice_sides, choice_diff, choice_diffs};
 ghost use Rattle.spec_translation.specs.Choice.{ChoiceGoesOn, AllGoOn};
 ghost use Rattle.spec_translation.specs.Visited.{some_large};
 ghost use Rattle.spec_translation.specs.Translation.{Translated, Clauses, IsTranslation};
@@ -30,7 +32,7 @@ ghost use Rattle.spec_translation.specs.Attacker.{attacker_raw};
 ghost use Rattle.spec_translation.specs.Goal.{arguments_at, goal_raw};
 ghost use Rattle.spec_translation.specs.Satisfied.{is_bad};
 ghost use Rattle.spec_translation.specs.Placement.{IsWellPlaced};
-ghost use Rattle.spec_translation.specs.Plain.{IsPlain, IsPlainQuery, IsPlainClause, plain_attacker};
+ghost use Rattle.spec_translation.specs.Plain.{IsPlain, IsPlainQuery, IsPlainClause, HasNoElse, plain_attacker};
 
 /// A protocol and a query have one translation at most: the same clauses in the same order, or the same point,
 /// whatever new variables and most general unifiers are taken.
@@ -120,12 +122,18 @@ pub fn variables_are_few()
 
 /// A protocol that waits for no phase and has no use of tables is translated as one without these: the attacker's raw clauses
 /// are those of phase 0 alone, and where the query is of phase 0, or about events, so is each fact of each clause, and none is
-/// of a table. No clause has constraints, since else branches, which alone could, add none.
+/// of a table.
 pub fn plain_protocols_have_plain_clauses()
     ensures attacker { (P : Protocol) → IsPlain P.main → attacker_raw P ≡ plain_attacker P }
     ensures clauses { (P : Protocol) (q : Query) (all : List (Clause Term)) (c : Clause Term) →
         IsPlain P.main → IsPlainQuery q → IsTranslation P q (Clauses all) → Has all c →
         IsPlainClause c }
+{}
+
+/// Where the else branch of each `let` does nothing, no clause of the translation has constraints: else branches alone add some.
+pub fn clauses_without_else_have_no_constraints()
+    ensures { (P : Protocol) (q : Query) (all : List (Clause Term)) (c : Clause Term) →
+        HasNoElse P.main → IsTranslation P q (Clauses all) → Has all c → c.diffs ≡ [] }
 {}
 
 /// What excludes the else branch of a `let` is one constraint for each choice of rules, in order, where each destructor of the
@@ -134,4 +142,13 @@ pub fn else_branches_have_a_constraint_for_each_choice()
     ensures { (P : Protocol) (scope : Scope) (pattern : Pattern) (e : Expression) →
         EachSymbol (TakesParts (signature_of P)) e → choice_diffs P scope pattern e
         ≡ map (λ c. choice_diff P scope pattern c.ruled) (choices P e) }
+{}
+
+/// The constraint of a choice is told by the terms that are unified for it, where the variables of rules and patterns have the
+/// numbers from one on that is above all variables of the scope: the constraint binds these.
+pub fn choices_show_constraints()
+    ensures { (P : Protocol) (scope : Scope) (first : ℕ) (pattern : Pattern) (ruled : Ruled) →
+        AreBelow first (map (λ b. b.term) scope) →
+        diff_shown (choice_in_terms P scope first pattern ruled) ≡
+        choice_sides P scope pattern ruled }
 {}

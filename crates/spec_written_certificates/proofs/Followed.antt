@@ -3,14 +3,15 @@ use Rattle.std.proofs.Common.{◌≡◌, ℕ, List, [], ◌∷◌, ◌++◌, dro
 use Rattle.std.specs.Prelude.{codes}
 use Rattle.std.specs.Fmt.{decimal}
 use Rattle.spec_calculus.specs.Syntax.{Declared, Protocol}
-use Rattle.spec_clauses.specs.Fact.{Fact, Att, Mess, Tab, Ev, Mev, Bad, Clause}
+use Rattle.spec_clauses.specs.Fact.{Fact, Att, Mess, Tab, Ev, Mev, Bad}
 use Rattle.spec_certificates.specs.Certificate.{Certificate}
 use Rattle.spec_certificate_text.specs.Loose.{Head, Applied, Tupled, Made, Attackers}
+use Rattle.spec_certificate_text.specs.Sides.{SidesOf, SpelledClause}
 use Rattle.spec_certificate_text.specs.Words.{declared_word}
 use Rattle.spec_certificate_text.specs.Text.{phase_text, numbers_text, row_lines}
 use Rattle.spec_certificate_text.proofs.Followed.{phase_followed, certificate_followed}
 use Rattle.spec_node_tables.specs.Nodes.{TableNode, NodeCertificate, with_nodes}
-use Rattle.spec_node_tables.specs.Text.{later_terms, terms_text, call_over, event_over, fact_over, later_hypotheses, hypotheses_over, clause_over, clause_lines_over, number_text, head_text, node_head, node_numbers, node_text, node_lines, numbered_text, text_with_nodes}
+use Rattle.spec_node_tables.specs.Text.{later_terms, terms_text, call_over, event_over, fact_over, sides_over, later_diffs, diffs_over, later_hypotheses, hypotheses_over, clause_over, clause_lines_over, number_text, head_text, node_head, node_numbers, node_text, node_lines, numbered_text, text_with_nodes}
 
 -- Nodes.
 
@@ -62,20 +63,32 @@ module _ (P : Protocol) where
   fact_followed (Mev e ts) k rest = ap (λ l. codes "mev(" ++ l) (event_followed e ts (41 ∷ k) rest)
   fact_followed (Bad ts) k rest = ap (λ l. codes "bad(" ++ l) (terms_followed ts (41 ∷ k) rest)
 
-  further_followed : (hs : List (Fact ℕ)) (k rest : List ℕ) → later_hypotheses number_text P hs k ++ rest ≡ later_hypotheses number_text P hs (k ++ rest)
-  further_followed [] k rest = refl
-  further_followed (h ∷ hs) k rest = ap (λ l. 44 ∷ 32 ∷ l) (fact_followed h (later_hypotheses number_text P hs k) rest ∙ ap (fact_over number_text P h) (further_followed hs k rest))
+  sides_followed : (s : SidesOf ℕ) (k rest : List ℕ) → sides_over number_text P s k ++ rest ≡ sides_over number_text P s (k ++ rest)
+  sides_followed s k rest =
+      ap (λ l. codes "diff(" ++ l) (terms_followed s.left (59 ∷ terms_text number_text P s.right (41 ∷ k)) rest ∙ ap (λ l. terms_text number_text P s.left (59 ∷ l)) (terms_followed s.right (41 ∷ k) rest))
 
-  hypotheses_followed : (hs : List (Fact ℕ)) (k rest : List ℕ) → hypotheses_over number_text P hs k ++ rest ≡ hypotheses_over number_text P hs (k ++ rest)
-  hypotheses_followed [] k rest = refl
-  hypotheses_followed (h ∷ hs) k rest = fact_followed h (later_hypotheses number_text P hs k) rest ∙ ap (fact_over number_text P h) (further_followed hs k rest)
+  later_diffs_followed : (ds : List (SidesOf ℕ)) (k rest : List ℕ) → later_diffs number_text P ds k ++ rest ≡ later_diffs number_text P ds (k ++ rest)
+  later_diffs_followed [] k rest = refl
+  later_diffs_followed (d ∷ ds) k rest = ap (λ l. 44 ∷ 32 ∷ l) (sides_followed d (later_diffs number_text P ds k) rest ∙ ap (sides_over number_text P d) (later_diffs_followed ds k rest))
 
-  clause_followed : (c : Clause ℕ) (k rest : List ℕ) → clause_over number_text P c k ++ rest ≡ clause_over number_text P c (k ++ rest)
+  diffs_followed : (ds : List (SidesOf ℕ)) (k rest : List ℕ) → diffs_over number_text P ds k ++ rest ≡ diffs_over number_text P ds (k ++ rest)
+  diffs_followed [] k rest = refl
+  diffs_followed (d ∷ ds) k rest = sides_followed d (later_diffs number_text P ds k) rest ∙ ap (sides_over number_text P d) (later_diffs_followed ds k rest)
+
+  further_followed : (hs : List (Fact ℕ)) (ds : List (SidesOf ℕ)) (k rest : List ℕ) → later_hypotheses number_text P hs ds k ++ rest ≡ later_hypotheses number_text P hs ds (k ++ rest)
+  further_followed [] ds k rest = later_diffs_followed ds k rest
+  further_followed (h ∷ hs) ds k rest = ap (λ l. 44 ∷ 32 ∷ l) (fact_followed h (later_hypotheses number_text P hs ds k) rest ∙ ap (fact_over number_text P h) (further_followed hs ds k rest))
+
+  hypotheses_followed : (hs : List (Fact ℕ)) (ds : List (SidesOf ℕ)) (k rest : List ℕ) → hypotheses_over number_text P hs ds k ++ rest ≡ hypotheses_over number_text P hs ds (k ++ rest)
+  hypotheses_followed [] ds k rest = diffs_followed ds k rest
+  hypotheses_followed (h ∷ hs) ds k rest = fact_followed h (later_hypotheses number_text P hs ds k) rest ∙ ap (fact_over number_text P h) (further_followed hs ds k rest)
+
+  clause_followed : (c : SpelledClause ℕ) (k rest : List ℕ) → clause_over number_text P c k ++ rest ≡ clause_over number_text P c (k ++ rest)
   clause_followed c k rest =
-      hypotheses_followed c.hypotheses (61 ∷ 62 ∷ 32 ∷ fact_over number_text P c.conclusion k) rest
-      ∙ ap (λ l. hypotheses_over number_text P c.hypotheses (61 ∷ 62 ∷ 32 ∷ l)) (fact_followed c.conclusion k rest)
+      hypotheses_followed c.hypotheses c.diffs (61 ∷ 62 ∷ 32 ∷ fact_over number_text P c.conclusion k) rest
+      ∙ ap (λ l. hypotheses_over number_text P c.hypotheses c.diffs (61 ∷ 62 ∷ 32 ∷ l)) (fact_followed c.conclusion k rest)
 
-  clauses_followed : (cs : List (Clause ℕ)) (k rest : List ℕ) → clause_lines_over number_text P cs k ++ rest ≡ clause_lines_over number_text P cs (k ++ rest)
+  clauses_followed : (cs : List (SpelledClause ℕ)) (k rest : List ℕ) → clause_lines_over number_text P cs k ++ rest ≡ clause_lines_over number_text P cs (k ++ rest)
   clauses_followed [] k rest = refl
   clauses_followed (c ∷ cs) k rest =
       ap (λ l. 99 ∷ 32 ∷ l) (clause_followed c (10 ∷ clause_lines_over number_text P cs k) rest ∙ ap (λ l. clause_over number_text P c (10 ∷ l)) (clauses_followed cs k rest))

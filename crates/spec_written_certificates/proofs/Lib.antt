@@ -1,3 +1,4 @@
 pub mod Followed
 pub mod Numberable
 pub mod Written
+pub mod Worked

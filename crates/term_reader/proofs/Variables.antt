@@ -1,8 +1,11 @@
 -- Names of variables.
-use Rattle.std.proofs.Common.{◌≡◌, ℕ, ◌<◌, ◌≤◌, false, ◌==◌, ◌&&◌, List, [], ◌∷◌, length, drop, get_or, refl, arith}
+use Rattle.std.proofs.Common.{◌≡◌, ℕ, ◌<◌, ◌≤◌, false, ◌==◌, ◌&&◌, List, [], ◌∷◌, length, drop, get_or, Some, refl, arith}
 use Rattle.std.specs.Char.{is_ascii_digit}
 use Rattle.std.specs.List.{list_all}
 use Rattle.spec_protocol_scope.specs.Names.{is_variable}
+use Rattle.spec_run_text.specs.Reading.{numeral}
+use Rattle.spec_run_text.proofs.Numbers.{numeral_some}
+use Rattle.spec_certificate_text.specs.Sides.{first_bound}
 
 pub empty_behind : (word : List ℕ) → length word ≡ 0 → word ≡ drop 1 word
 empty_behind [] e = refl
@@ -21,3 +24,9 @@ long_word (b ∷ []) long = absurd (omega (arith, long))
 long_word (b ∷ c ∷ word) long = refl
 
 pub ruleset tested = (short_word, long_word)
+
+-- digits that are a number are no more than the limit
+pub short_bound : (digits : List ℕ) (n : ℕ) → numeral digits ≡ Some n → n < first_bound
+short_bound digits n e = (numeral_some digits n e).1
+
+pub ruleset bound = (short_bound)

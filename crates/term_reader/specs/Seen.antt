@@ -9,7 +9,7 @@ use Rattle.term_reader.specs.declared.words.CalledEvent.{CalledEvent}
 use Rattle.term_reader.specs.declared.state.Open.{Open}
 use Rattle.term_reader.specs.declared.state.Heads.{Heads}
 use Rattle.term_reader.specs.declared.state.Mode.{Mode}
-use Rattle.term_reader.specs.declared.state.Mode.TheVariants.{Begins, InWord, InDigits, AtBracket, Ended}
+use Rattle.term_reader.specs.declared.state.Mode.TheVariants.{Begins, InWord, InDigits, AtBracket, InBound, Ended}
 use Rattle.term_reader.specs.declared.state.Reading.{Reading}
 
 abbrev pub named_of : Named → names.Named
@@ -38,6 +38,7 @@ mode_of Begins = terms.Begins
 mode_of (InWord word) = terms.InWord word.items
 mode_of (InDigits name) = terms.InDigits name.word.items name.digits.items
 mode_of AtBracket = terms.AtBracket
+mode_of (InBound digits) = terms.InBound digits.items
 mode_of (Ended t) = terms.Ended (term_of t)
 
 abbrev pub reading_of : Reading → terms.Reading

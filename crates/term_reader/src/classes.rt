@@ -1,5 +1,6 @@
 //! Classes of bytes and of symbols.
 
+ghost use Rattle.spec_certificate_text.specs.Spelled.{goes_on};
 ghost use Rattle.std.specs.Prelude.{◌≡◌, ◌+◌, ◌<◌, ◌^◌, drop};
 ghost use Rattle.spec_protocol_tokens.specs.Bytes.{begins_word, is_in_word};
 ghost use Rattle.spec_protocol_scope.specs.Names.{is_variable};
@@ -100,4 +101,11 @@ pub fn may_be_empty(symbol: Sym, arguments: &Trees) -> bool
         Sym::Point(_) => arguments.items.is_empty(),
         _ => false,
     }
+}
+
+/// Whether a word could go on with the byte, or be more than a word alone.
+pub fn goes_on(byte: u8) -> bool
+    ensures { result ≡ goes_on byte }
+{
+    is_in_word(byte) || byte == b'(' || byte == b'@'
 }

@@ -3,7 +3,7 @@
 ghost use Rattle.std.specs.Prelude.{◌≡◌, ◌≤◌, length, drop, IfOk};
 ghost use Rattle.pi_tree.specs.Protocols.{protocol_of};
 ghost use Rattle.term_reader.specs.Naming.{protocol_in};
-ghost use Rattle.spec_certificate_text.specs.Runs.{Refused, cut_off, cut_before, at_end, read_term};
+ghost use Rattle.spec_certificate_text.specs.Runs.{Refused, cut_off, cut_before, at_end, read_tree, read_term};
 ghost use Rattle.term_reader.specs.Few.{HasFewNames};
 ghost use Rattle.term_reader.specs.Seen.{heads_of, mode_of};
 ghost use Rattle.term_reader.specs.SeenSteps.{code_of, read_of, EndsWithin};
@@ -54,12 +54,12 @@ fn at_end(place: usize, reading: Reading) -> (usize, Code)
     }
 }
 
-/// The term that stands at the place, by these names.
+/// The term that stands at the place, or the side of a constraint, in which variables may be bound, by these names.
 #[tactic(auto, using(crate::proofs::Walk::walk))]
-pub fn term_at(names: &Names<'_>, bytes: &[u8], at: usize) -> Result<Read, AllocError>
+pub fn term_at(names: &Names<'_>, bytes: &[u8], at: usize, binds: bool) -> Result<Read, AllocError>
     requires { at ≤ length bytes.now }
     ensures read { IfOk result (λ read. read_of bytes.now read ≡
-        read_term (protocol_in names.now) (drop at bytes.now) at) }
+        read_tree binds (protocol_in names.now) (drop at bytes.now) at) }
     ensures within { IfOk result (λ read. EndsWithin (length bytes.now) read) }
 {
     let mut reading = Reading {
@@ -68,7 +68,7 @@ pub fn term_at(names: &Names<'_>, bytes: &[u8], at: usize) -> Result<Read, Alloc
         from: at,
     };
     for place in at..bytes.len() {
-        reading = match step(names, place, reading, bytes[place])? {
+        reading = match step(names, place, reading, bytes[place], binds)? {
             Step::Goes(next) => next,
             Step::Ends(term) => return Ok(Read::Done(term, place)),
             Step::Fault(at, code) => return Ok(Read::Refused(at, code)),
@@ -99,5 +99,5 @@ pub fn read_term(
         protocol,
         greatest,
     };
-    term_at(&names, bytes, at)
+    term_at(&names, bytes, at, false)
 }

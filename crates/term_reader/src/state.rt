@@ -54,6 +54,8 @@ pub enum Mode {
     InWord(Vec<u8>),
     InDigits(Pointed),
     AtBracket,
+    /// The `?` of a bound variable, and digits.
+    InBound(Vec<u8>),
     Ended(Tree),
 }
 

@@ -1,6 +1,9 @@
 //! What each byte does.
 
-ghost use Rattle.std.specs.Prelude.{◌≡◌, ◌∷◌, ◌++◌, [], IfOk, Some};
+ghost use Rattle.std.specs.Prelude.{◌≡◌, ◌+◌, ◌<◌, ◌∷◌, ◌++◌, [], cond, IfOk, Some};
+ghost use Rattle.spec_trees.specs.Tree.{Leaf};
+ghost use Rattle.spec_certificate_text.specs.Sides.{first_bound};
+ghost use Rattle.spec_certificate_text.specs.Spelled.{goes_on};
 ghost use Rattle.term_tree.specs.Bank.{symbol_of};
 ghost use Rattle.clause_form.specs.Plain.{term_of};
 ghost use Rattle.term_reader.specs.Naming.{protocol_in};
@@ -12,8 +15,8 @@ ghost use Rattle.term_reader.specs.Seen.{named_of, found_of, open_of, heads_of, 
 ghost use Rattle.term_reader.specs.SeenSteps.{code_of, step_of};
 
 use crate::classes::{
-    begins_word, behind_first, closing_byte, has_arity, is_in_word, is_variable, may_be_empty,
-    may_close, may_go_on, with_parts,
+    begins_word, behind_first, closing_byte, goes_on, has_arity, is_in_word, is_variable,
+    may_be_empty, may_close, may_go_on, with_parts,
 };
 use crate::state::{
     Code, Heads, Mode, Open, Pointed, Popped, Reading, Step, is_deep, pop_head, push_head,
@@ -24,12 +27,17 @@ use numerals::number;
 use std::alloc::{AllocError, Global};
 use term_tree::Sym;
 
-/// A byte, the place where it stands, and where the word before it began.
+/// The number from which on variables are bound ones: no number of a text has as many digits.
+pub const FIRST_BOUND: u32 = 1_000_000_000;
+
+/// A byte, the place where it stands, where the word before it began, and whether bound variables may stand there, as in
+/// constraints.
 #[derive(Clone, Copy)]
 pub struct Here {
     pub at: usize,
     pub byte: u8,
     pub from: usize,
+    pub binds: bool,
 }
 
 /// Reading goes on in this way.
@@ -148,9 +156,33 @@ fn begin_word(alloc: Global, here: Here, heads: Heads) -> Result<Step, AllocErro
     Ok(goes(heads, Mode::InWord(word), here.at))
 }
 
+/// An attacker's name begins.
+fn begin_attacker(here: Here, heads: Heads) -> Step
+    ensures { step_of result ≡ steps.unless_deep (heads_of heads) here.at
+        (steps.goes (heads_of heads) terms.AtBracket here.at) }
+{
+    if is_deep(&heads) {
+        return Step::Fault(here.at, Code::Count);
+    }
+    goes(heads, Mode::AtBracket, here.at)
+}
+
+/// A bound variable begins: it may stand in a constraint alone.
+fn begin_bound(alloc: Global, here: Here, heads: Heads) -> Step
+    ensures { step_of result ≡ steps.begin_bound here.binds here.at (heads_of heads) }
+{
+    if !here.binds {
+        return Step::Fault(here.at, Code::Symbol);
+    }
+    if is_deep(&heads) {
+        return Step::Fault(here.at, Code::Count);
+    }
+    goes(heads, Mode::InBound(Vec::new(alloc)), here.at)
+}
+
 /// A term begins.
 fn begin_term(alloc: Global, here: Here, heads: Heads) -> Result<Step, AllocError>
-    ensures { IfOk result (λ s. step_of s ≡ steps.begin_term here.at (heads_of heads) here.byte) }
+    ensures { IfOk result (λ s. step_of s ≡ steps.begin_term here.binds here.at (heads_of heads) here.byte) }
 {
     if begins_word(here.byte) {
         return begin_word(alloc, here, heads);
@@ -162,19 +194,19 @@ fn begin_term(alloc: Global, here: Here, heads: Heads) -> Result<Step, AllocErro
         };
         return opened_there(alloc, heads, tuple, here.at);
     }
-    if here.byte != b'@' {
-        return Ok(Step::Fault(here.at, Code::Syntax));
+    if here.byte == b'@' {
+        return Ok(begin_attacker(here, heads));
     }
-    if is_deep(&heads) {
-        return Ok(Step::Fault(here.at, Code::Count));
+    if here.byte == b'?' {
+        return Ok(begin_bound(alloc, here, heads));
     }
-    Ok(goes(heads, Mode::AtBracket, here.at))
+    Ok(Step::Fault(here.at, Code::Syntax))
 }
 
 /// An argument begins, or the arguments end before the first.
 #[tactic(auto, using(crate::proofs::Closing::closing))]
 fn begin_argument(alloc: Global, here: Here, head: Open, heads: Heads) -> Result<Step, AllocError>
-    ensures { IfOk result (λ s. step_of s ≡ steps.at_begin here.at (open_of head ∷ heads_of heads)
+    ensures { IfOk result (λ s. step_of s ≡ steps.at_begin here.binds here.at (open_of head ∷ heads_of heads)
         here.byte) }
 {
     if here.byte == b']' && may_be_empty(head.symbol, &head.arguments) {
@@ -189,7 +221,7 @@ fn begin_argument(alloc: Global, here: Here, head: Open, heads: Heads) -> Result
 
 /// Where a term may begin.
 fn at_begin(alloc: Global, here: Here, heads: Heads) -> Result<Step, AllocError>
-    ensures { IfOk result (λ s. step_of s ≡ steps.at_begin here.at (heads_of heads) here.byte) }
+    ensures { IfOk result (λ s. step_of s ≡ steps.at_begin here.binds here.at (heads_of heads) here.byte) }
 {
     match pop_head(heads) {
         Popped::Empty(none) => begin_term(alloc, here, none),
@@ -373,6 +405,47 @@ fn in_digits(names: &Names<'_>, here: Here, heads: Heads, name: Pointed) -> Resu
     }
 }
 
+/// A bound variable of this number ended.
+fn after_bound(here: Here, heads: Heads, number: u32) -> Result<Step, AllocError>
+    requires { number < first_bound }
+    ensures { IfOk result (λ s. step_of s ≡
+        cond (goes_on here.byte) (terms.Fault here.at terms.Syntax)
+        (steps.after_term here.at (Leaf (first_bound + number)) (heads_of heads) here.from
+        here.byte)) }
+{
+    if goes_on(here.byte) {
+        return Ok(Step::Fault(here.at, Code::Syntax));
+    }
+    after_term(here, Tree::Var(FIRST_BOUND + number), heads)
+}
+
+/// Digits behind a `?` ended.
+#[tactic(auto, using(crate::proofs::Variables::bound))]
+fn bound_ended(here: Here, heads: Heads, digits: &[u8]) -> Result<Step, AllocError>
+    ensures { IfOk result (λ s. step_of s ≡ steps.bound_ended here.at (heads_of heads) here.from
+        digits.now here.byte) }
+{
+    if digits.is_empty() {
+        return Ok(Step::Fault(here.at, Code::Syntax));
+    }
+    match number(digits) {
+        None => Ok(Step::Fault(here.at.saturating_sub(digits.len()), Code::Number)),
+        Some(bound) => after_bound(here, heads, bound),
+    }
+}
+
+/// Within the digits of a bound variable.
+fn in_bound(here: Here, heads: Heads, mut digits: Vec<u8>) -> Result<Step, AllocError>
+    ensures { IfOk result (λ s. step_of s ≡ steps.in_bound here.at (heads_of heads) here.from
+        digits.items here.byte) }
+{
+    if here.byte.is_ascii_digit() {
+        digits.push(here.byte)?;
+        return Ok(goes(heads, Mode::InBound(digits), here.from));
+    }
+    bound_ended(here, heads, &digits)
+}
+
 /// Behind the `@` of an attacker's name.
 fn at_bracket(alloc: Global, here: Here, heads: Heads) -> Result<Step, AllocError>
     ensures { IfOk result (λ s. step_of s ≡ steps.at_bracket here.at (heads_of heads) here.from
@@ -388,18 +461,30 @@ fn at_bracket(alloc: Global, here: Here, heads: Heads) -> Result<Step, AllocErro
     opened(alloc, heads, attacker, here.from)
 }
 
-/// What the byte does that stands at the place.
-pub fn step(names: &Names<'_>, at: usize, reading: Reading, byte: u8) -> Result<Step, AllocError>
-    ensures { IfOk result (λ s. step_of s ≡ steps.step (protocol_in names.now) at
+/// What the byte does that stands at the place, in a constraint or in a fact.
+pub fn step(
+    names: &Names<'_>,
+    at: usize,
+    reading: Reading,
+    byte: u8,
+    binds: bool,
+) -> Result<Step, AllocError>
+    ensures { IfOk result (λ s. step_of s ≡ steps.step binds (protocol_in names.now) at
         (reading_of reading) byte) }
 {
     let Reading { heads, mode, from } = reading;
-    let here = Here { at, byte, from };
+    let here = Here {
+        at,
+        byte,
+        from,
+        binds,
+    };
     match mode {
         Mode::Begins => at_begin(names.alloc, here, heads),
         Mode::InWord(word) => in_word(names, here, heads, word),
         Mode::InDigits(name) => in_digits(names, here, heads, name),
         Mode::AtBracket => at_bracket(names.alloc, here, heads),
+        Mode::InBound(digits) => in_bound(here, heads, digits),
         Mode::Ended(term) => after_term(here, term, heads),
     }
 }

@@ -1,5 +1,5 @@
--- What is written in the words of a protocol stands on one line: numbers, words, terms, facts and clauses.
-use Rattle.std.proofs.Common.{◌≡◌, ℕ, zero, suc, ◌/◌, ◌%◌, ◌==◌, ◌&&◌, not, if◌then◌else◌, Bool, true, false, List, [], ◌∷◌, ◌++◌, option_map, unwrap_or, refl, ap, subst, ◌∙◌, arith}
+-- What is written in the words of a protocol stands on one line: numbers, words, terms, facts, constraints and clauses.
+use Rattle.std.proofs.Common.{◌≡◌, ℕ, zero, suc, ◌-◌, ◌/◌, ◌%◌, ◌==◌, ◌&&◌, not, if◌then◌else◌, Bool, true, false, cond, nat_lt, List, [], ◌∷◌, ◌++◌, option_map, unwrap_or, codes, refl, ap, subst, ◌∙◌, arith}
 use Rattle.std.proofs.lemmas.Bool.Decides.{nat_tests}
 use Rattle.std.proofs.lemmas.List.Folds.{list_all-append}
 use Rattle.std.specs.Fmt.{decimal, digits, digits_onto, digit_glyph}
@@ -12,11 +12,13 @@ use Rattle.spec_well_formed.specs.Processes.{EachWord}
 use Rattle.spec_protocol_tokens.specs.Bytes.{is_in_word}
 use Rattle.spec_protocol_scope.specs.Words.{IsIdentifier, IsSymbolWord, HasWords}
 use Rattle.spec_terms.specs.Term.{Sym, Ctor, Data, Tuple, Free, Point, Attacker, Term}
+use Rattle.spec_clauses.specs.Diff.{Diff}
 use Rattle.spec_clauses.specs.Fact.{Fact, Att, Mess, Tab, Ev, Mev, Bad, Clause}
 use Rattle.spec_certificate_text.specs.Loose.{Head, Applied, Tupled, Made, Attackers, Loose, LooseRow, opening, closing, onto, row, behind}
+use Rattle.spec_certificate_text.specs.Sides.{first_bound, variable_word, spelled_diff}
 use Rattle.spec_certificate_text.specs.Words.{declared_word, word_of_process, symbol_word, event_word, table_word}
 use Rattle.spec_certificate_text.specs.Written.{applied, headed, written, written_row, written_event, written_entry, LooseFact, written_fact}
-use Rattle.spec_certificate_text.specs.Text.{phase_text, fact_text, later_hypotheses, hypotheses_text, clause_text}
+use Rattle.spec_certificate_text.specs.Text.{phase_text, fact_text, diff_text, later_diffs, diffs_text, later_hypotheses, hypotheses_text, clause_text}
 use Rattle.spec_certificate_text.proofs.Runs.{both_left, both_right}
 use Rattle.spec_certificate_text.proofs.Parts.{equal_byte}
 use Rattle.spec_certificate_text.specs.ReportText.{in_line}
@@ -154,7 +156,15 @@ mutual
   behind_in_line none rest is k = k
   behind_in_line (more t ts) rest is k = onto_in_line t (behind ts rest) is.0 (behind_in_line ts rest is.1 k)
 
--- Terms, facts and clauses.
+-- Terms, facts, constraints and clauses.
+
+-- the word of a variable, which may be a bound one
+variable_in_line : (x : ℕ) → IsOneLine (variable_word x)
+variable_in_line x = by (nat_lt x first_bound)
+  where
+    by : (low : Bool) → IsOneLine (cond low (118 ∷ decimal x) (63 ∷ decimal (x - first_bound)))
+    by true = decimal_in_line x
+    by false = decimal_in_line (x - first_bound)
 
 applied_in_line : (word : List ℕ) (ts : LooseRow) → IsOneLine word → RowInLine ts → LooseInLine (applied word ts)
 applied_in_line word none is are = is
@@ -170,7 +180,7 @@ headed_in_line P words Attacker ts are = (tt, are)
 
 mutual
   written_in_line : (P : Protocol) → HasWords P → (t : Term) → LooseInLine (written P t)
-  written_in_line P words (Leaf x) = decimal_in_line x
+  written_in_line P words (Leaf x) = variable_in_line x
   written_in_line P words (Node f ts) = headed_in_line P words f (written_row P ts) (written_row_in_line P words ts)
 
   written_row_in_line : (P : Protocol) → HasWords P → (ts : Trees ℕ Sym) → RowInLine (written_row P ts)
@@ -207,13 +217,28 @@ fact_in_line P words f rest k =
     joined loose.predicate (phase_text loose.phase (40 ∷ row loose.arguments (41 ∷ rest))) is.predicate
     (phase_in_line loose.phase (40 ∷ row loose.arguments (41 ∷ rest)) (row_in_line loose.arguments (41 ∷ rest) is.arguments k))
 
-later_in_line : (P : Protocol) → HasWords P → (hs : List (Fact Term)) (rest : List ℕ) → IsOneLine rest → IsOneLine (later_hypotheses P hs rest)
-later_in_line P words [] rest k = k
-later_in_line P words (h ∷ hs) rest k = fact_in_line P words h (later_hypotheses P hs rest) (later_in_line P words hs rest k)
+diff_in_line : (P : Protocol) → HasWords P → (d : Diff) (rest : List ℕ) → IsOneLine rest → IsOneLine (diff_text P d rest)
+diff_in_line P words d rest k =
+    let sides = spelled_diff d in
+    let right = row (written_row P (trees sides.right)) (41 ∷ rest) in
+    joined (codes "diff(") (row (written_row P (trees sides.left)) (59 ∷ right)) refl
+    (row_in_line (written_row P (trees sides.left)) (59 ∷ right) (written_row_in_line P words (trees sides.left)) (row_in_line (written_row P (trees sides.right)) (41 ∷ rest) (written_row_in_line P words (trees sides.right)) k))
 
-hypotheses_in_line : (P : Protocol) → HasWords P → (hs : List (Fact Term)) (rest : List ℕ) → IsOneLine rest → IsOneLine (hypotheses_text P hs rest)
-hypotheses_in_line P words [] rest k = k
-hypotheses_in_line P words (h ∷ hs) rest k = fact_in_line P words h (later_hypotheses P hs rest) (later_in_line P words hs rest k)
+later_diffs_in_line : (P : Protocol) → HasWords P → (ds : List Diff) (rest : List ℕ) → IsOneLine rest → IsOneLine (later_diffs P ds rest)
+later_diffs_in_line P words [] rest k = k
+later_diffs_in_line P words (d ∷ ds) rest k = diff_in_line P words d (later_diffs P ds rest) (later_diffs_in_line P words ds rest k)
+
+diffs_in_line : (P : Protocol) → HasWords P → (ds : List Diff) (rest : List ℕ) → IsOneLine rest → IsOneLine (diffs_text P ds rest)
+diffs_in_line P words [] rest k = k
+diffs_in_line P words (d ∷ ds) rest k = diff_in_line P words d (later_diffs P ds rest) (later_diffs_in_line P words ds rest k)
+
+later_in_line : (P : Protocol) → HasWords P → (hs : List (Fact Term)) (ds : List Diff) (rest : List ℕ) → IsOneLine rest → IsOneLine (later_hypotheses P hs ds rest)
+later_in_line P words [] ds rest k = later_diffs_in_line P words ds rest k
+later_in_line P words (h ∷ hs) ds rest k = fact_in_line P words h (later_hypotheses P hs ds rest) (later_in_line P words hs ds rest k)
+
+hypotheses_in_line : (P : Protocol) → HasWords P → (hs : List (Fact Term)) (ds : List Diff) (rest : List ℕ) → IsOneLine rest → IsOneLine (hypotheses_text P hs ds rest)
+hypotheses_in_line P words [] ds rest k = diffs_in_line P words ds rest k
+hypotheses_in_line P words (h ∷ hs) ds rest k = fact_in_line P words h (later_hypotheses P hs ds rest) (later_in_line P words hs ds rest k)
 
 pub clause_in_line : (P : Protocol) → HasWords P → (c : Clause Term) (rest : List ℕ) → IsOneLine rest → IsOneLine (clause_text P c rest)
-clause_in_line P words c rest k = hypotheses_in_line P words c.hypotheses (61 ∷ 62 ∷ 32 ∷ fact_text P c.conclusion rest) (fact_in_line P words c.conclusion rest k)
+clause_in_line P words c rest k = hypotheses_in_line P words c.hypotheses c.diffs (61 ∷ 62 ∷ 32 ∷ fact_text P c.conclusion rest) (fact_in_line P words c.conclusion rest k)

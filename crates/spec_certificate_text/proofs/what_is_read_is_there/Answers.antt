@@ -1,3 +1,4 @@
+use Rattle.std.proofs.Common.{false}
 use Rattle.spec_certificate_text.proofs.ReadRuns.{read_term-sound, read_on-place}
 use Rattle.spec_certificate_text.proofs.Kept.{read_term-kept}
 use Rattle.spec_certificate_text.proofs.what_is_read_is_there.Goals as goal
@@ -9,4 +10,4 @@ pub returns-clause-is_of : goal.returns-clause-is_of
 returns-clause-is_of c = λ P bytes at place t rest e. read_term-kept P bytes at t place rest e
 
 pub returns-clause-place : goal.returns-clause-place
-returns-clause-place c = λ P bytes at place t rest e. read_on-place P bytes at _ t place rest e
+returns-clause-place c = λ P bytes at place t rest e. read_on-place false P bytes at _ t place rest e

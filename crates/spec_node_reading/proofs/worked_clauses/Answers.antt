@@ -1,6 +1,7 @@
 use Rattle.std.proofs.Common.{refl}
 use Rattle.spec_certificate_text.specs.Outcomes.{read_fixed, lines_from, things_from}
 use Rattle.spec_node_reading.specs.Loops.{lines_through, row_from}
+use Rattle.spec_node_reading.specs.ReadClauses.{hypotheses_from}
 use Rattle.spec_node_reading.proofs.worked_clauses.Goals as goal
 
 pub returns-clause-zero : goal.returns-clause-zero
@@ -20,15 +21,15 @@ unfolding read_fixed lines_from things_from lines_through row_from
 returns-clause-leading c = refl
 
 pub returns-clause-event : goal.returns-clause-event
-unfolding read_fixed lines_from things_from lines_through row_from
+unfolding read_fixed lines_from things_from lines_through row_from hypotheses_from
 returns-clause-event c = refl
 
 pub returns-clause-bare : goal.returns-clause-bare
-unfolding read_fixed lines_from things_from lines_through row_from
+unfolding read_fixed lines_from things_from lines_through row_from hypotheses_from
 returns-clause-bare c = refl
 
 pub returns-clause-two : goal.returns-clause-two
-unfolding read_fixed lines_from things_from lines_through row_from
+unfolding read_fixed lines_from things_from lines_through row_from hypotheses_from
 returns-clause-two c = refl
 
 pub returns-clause-rows : goal.returns-clause-rows

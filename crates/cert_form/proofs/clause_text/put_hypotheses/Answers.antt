@@ -1,5 +1,4 @@
-use Rattle.std.proofs.Common.{ap, ◌∙◌, map, length, sym}
-use Rattle.std.proofs.lemmas.Result.{on_ok_weaker}
+use Rattle.std.proofs.Common.{ap, ◌∙◌, map}
 use Rattle.pi_tree.specs.Protocols.{protocol_of}
 use Rattle.clause_form.specs.PlainFacts.{plain_fact_of}
 use Rattle.cert_form.proofs.Facts.{hypothesis_written, hypotheses_written}
@@ -12,8 +11,6 @@ each-preserved g c =
     (ap (map plain_fact_of) c.deref-hyp-items.ensures.value ∙ c.hyps.view_is) c.each.invariant c.each-test.true c.hyp-item.is c.in_ok-put_gap.ensures c.in_ok-put_fact.ensures
 
 pub returns : goal.returns
-returns g c = on_ok_weaker c.put_gap_end.result (λ gap.
-    hypotheses_written g.T.TermWriter.kept_of g.T.TermWriter.one (protocol_of c.args.protocol.now) c.args.hyps.now c.deref-hyp-items.result.now c.each.place c.len.result (g.T.TermWriter.kept c.args.writer.now) (g.T.TermWriter.kept c.each.writer) c.args.out.now.items c.each.out.items c.put_gap_end.new.out.items
-    (ap (map plain_fact_of) c.deref-hyp-items.ensures.value ∙ c.hyps.view_is) c.each.invariant c.each-test.false c.each.auto.place-end
-    (c.len.ensures ∙ (c.hyps.inside.items.ok.0 ∙ ap length (sym c.deref-hyp-items.ensures.value))) gap)
-    c.put_gap_end.ensures
+returns g c =
+    hypotheses_written g.T.TermWriter.kept_of g.T.TermWriter.one (protocol_of c.args.protocol.now) c.args.hyps.now c.deref-hyp-items.result.now c.each.place (g.T.TermWriter.kept c.args.writer.now) (g.T.TermWriter.kept c.each.writer) c.args.out.now.items c.each.out.items
+    (ap (map plain_fact_of) c.deref-hyp-items.ensures.value ∙ c.hyps.view_is) c.each.invariant c.each-test.false

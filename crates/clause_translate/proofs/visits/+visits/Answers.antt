@@ -1,4 +1,4 @@
-use Rattle.std.proofs.Common.{◌≡◌, ℕ, suc, ◌+◌, ◌-◌, ◌≤◌, true, false, Option, Some, None, List, [], map, length, take, drop, refl, ap, sym, subst, ◌∙◌, arith, ◌∷◌}
+use Rattle.std.proofs.Common.{◌≡◌, ℕ, suc, ◌+◌, ◌-◌, ◌<◌, ◌≤◌, true, false, Option, Some, None, List, [], map, length, take, drop, refl, ap, sym, subst, ◌∙◌, arith, ◌∷◌}
 use Rattle.std.specs.Prelude.{IfOk, IfSome, MatchOption, MatchBool}
 use Rattle.spec_calculus.specs.Syntax as calculus
 use Rattle.pi_tree.specs.declared.syntax.Process.{Process}
@@ -13,6 +13,7 @@ use Rattle.term_tree.proofs.BankLaws.{Grows_refl, Grows_trans, take-grows, Grows
 use Rattle.spec_calculus.specs.Syntax.{Ruled}
 use Rattle.spec_translation.specs.Visit.{Visit, is_large_visit, after_new, after_phase}
 use Rattle.spec_translation.specs.Choice.{EachGoesOn}
+use Rattle.spec_translation.specs.Otherwise.{otherwise_visit}
 use Rattle.spec_choice_walks.specs.Instructions.{completions, choices_by}
 use Rattle.term_values.specs.Instructions.{instruction_of}
 use Rattle.process_visits.specs.declared.listing.Listing.{Listing}
@@ -30,8 +31,9 @@ use Rattle.process_visits.proofs.Passing.{choices_counted}
 use Rattle.clause_translate.proofs.Weights.{weight}
 use Rattle.clause_translate.proofs.FewCopies.{next_copies, later_copies, kept_copies, one_copy, below_copies, known_way, entry_known}
 use Rattle.clause_translate.proofs.EntryWays.{large_way, small_way}
-use Rattle.clause_translate.proofs.FewPoints.{next_fit, next_few, next_point, left_few, right_few, left_point, right_point}
-use Rattle.clause_translate.proofs.Visiting.{none_left, nil_ends, spelled, counted_ok, ends_back, moved, moved_each, output_ends, event_ends, input_ends, copies_ends, new_ends, parallel_ends, let_ends, next_large, output_large, event_large, input_large, new_large, left_large, let_large, choice_large, phase_ends, insert_large, insert_ends, get_large, entry_large, entry_next_large, get_ends}
+use Rattle.clause_translate.proofs.Counting.{counted_each}
+use Rattle.clause_translate.proofs.FewPoints.{next_fit, next_few, next_point, left_few, left_within, right_few, left_point, right_point, point_before, at_point}
+use Rattle.clause_translate.proofs.Visiting.{none_left, nil_ends, spelled, counted_ok, ends_back, moved, moved_each, output_ends, event_ends, input_ends, copies_ends, new_ends, parallel_ends, let_ends, else_ends, next_large, output_large, event_large, input_large, new_large, left_large, let_large, choice_large, phase_ends, insert_large, insert_ends, get_large, entry_large, entry_next_large, get_ends}
 use Rattle.clause_translate.proofs.LetVisits.{few_left, completed_by, choosing_known, small_let, small_later, choosing_later, passes_as, passed_within}
 use Rattle.clause_translate.proofs.Repeating.{none_visited, passed_small, more_visited, large_visited, all_visited, nowhere_of, nowhere_ends, visit_ends}
 use Rattle.clause_translate.proofs.visits.+visits.Goals as goal
@@ -481,9 +483,6 @@ pub visit_copies-after_copy-requires-clause-copies : goal.visit_copies-after_cop
 visit_copies-after_copy-requires-clause-copies g t c = omega (arith, c.requires.copies, next_point c.args.place.now.point (calculus.Replication (process_of c.args.copied.now)) (process_of c.args.copied.now) refl c.requires.points)
 
 -- a `let`
-pub visit_let-below-below-requires : goal.visit_let-below-below-requires
-visit_let-below-below-requires g t c = left_point c.args.place.now.point (let_form c.args.choice.now) (process_of c.args.choice.now.next.now) (process_of c.args.choice.now.otherwise.now) refl c.requires.points
-
 pub visit_let-after-after-requires : goal.visit_let-after-after-requires
 visit_let-after-after-requires g t c = right_point c.args.place.now.point (let_form c.args.choice.now) (process_of c.args.choice.now.next.now) (process_of c.args.choice.now.otherwise.now) refl c.requires.points
 
@@ -503,8 +502,8 @@ pub visit_let-count_choices-count-requires : goal.visit_let-count_choices-count-
 visit_let-count_choices-count-requires g t c =
     few_left (protocol_at c.args.place.now) (map instruction_of c.deref.result.now) (expression_of c.args.choice.now.expression.now) (ap (map instruction_of) c.deref.ensures.value ∙ c.in_ok-instructions.ensures) c.requires.fit.1
 
-pub visit_let-is_large_choice-requires : goal.visit_let-is_large_choice-requires
-visit_let-is_large_choice-requires g t c =
+pub visit_let-look_at_choices-requires : goal.visit_let-look_at_choices-requires
+visit_let-look_at_choices-requires g t c =
     let old = g.B.Bank.trees c.args.bank.now in
     let P = protocol_at c.args.place.now in
     let w = c.args.visit.now in
@@ -515,8 +514,8 @@ visit_let-is_large_choice-requires g t c =
     choosing_known old _ e listed c.requires.visit (omega (arith, c.requires.copies, left_point c.args.place.now.point (let_form choice) (process_of choice.next.now) (process_of choice.otherwise.now) refl c.requires.points)) c.requires.fit.1
     (c.count_choices-count.ensures ∙ ap (λ l. choices_by P (map instruction_of l)) (c.deref.ensures.value ∙ sym c.deref-2.ensures.value))
 
-pub visit_let-returns-then-branch-clause-ends : goal.visit_let-returns-then-branch-clause-ends
-visit_let-returns-then-branch-clause-ends g t c =
+pub visit_let-returns-then-looked-clause-ends : goal.visit_let-returns-then-looked-clause-ends
+visit_let-returns-then-looked-clause-ends g t c =
     let old = g.B.Bank.trees c.args.bank.now in
     let P = protocol_at c.args.place.now in
     let w = c.args.visit.now in
@@ -525,32 +524,32 @@ visit_let-returns-then-branch-clause-ends g t c =
     let e = expression_of choice.expression.now in
     let listed = ap (map instruction_of) c.deref-2.ensures.value ∙ c.in_ok-instructions.ensures in
     let pattern = pattern_of choice.pattern.now in
-    let found = c.in_ok-is_large_choice.ensures.large in
+    let found = c.in_ok-looked.ensures.looked in
     choice_large P v pattern e (process_of choice.next.now) (process_of choice.otherwise.now) c.args.place.now.point c.args.listing.now.left found.outs (sym c.is_large_let.ensures ∙ c.if-is_large_let.false)
-    (subst (λ (l : List Ruled). EachGoesOn P v pattern l found.outs) (completed_by P (map instruction_of c.deref-2.result.now) e listed) found.go) (found.is ∙ c.if-branch.true)
+    (subst (λ (l : List Ruled). EachGoesOn P v pattern l found.outs) (completed_by P (map instruction_of c.deref-2.result.now) e listed) found.go) (found.large ∙ c.if-looked.true)
 
-pub visit_let-visit_choices-requires : goal.visit_let-visit_choices-requires
-visit_let-visit_choices-requires g t c κs within =
+pub visit_let-visit_chosen-requires : goal.visit_let-visit_chosen-requires
+visit_let-visit_chosen-requires g t c κs within =
     let old = g.B.Bank.trees c.args.bank.now in
     let P = protocol_at c.args.place.now in
     let w = c.args.visit.now in
-    let v = visit_at old w in
     let choice = c.args.choice.now in
     let e = expression_of choice.expression.now in
     let listed = ap (map instruction_of) c.deref-2.ensures.value ∙ c.in_ok-instructions.ensures in
-    let mid = g.B.Bank.trees c.is_large_choice.new.bank in
+    let mid = g.B.Bank.trees c.look_at_choices.new.bank in
     let next = process_of choice.next.now in
     let otherwise = process_of choice.otherwise.now in
-    let point = c.args.place.now.point in (
+    let point = c.args.place.now.point in
+    let looked = c.in_ok-looked.looked in (
       omega (arith, c.decreases),
       (
         within,
         (
-          choosing_known mid _ e listed (visit_later old mid w c.is_large_choice.ensures.grows c.requires.visit).known (omega (arith, c.requires.copies, left_point point (let_form choice) next otherwise refl c.requires.points)) c.requires.fit.1
+          choosing_known mid _ e listed (visit_later old mid w c.look_at_choices.ensures.grows c.requires.visit).known (omega (arith, c.requires.copies, left_point point (let_form choice) next otherwise refl c.requires.points)) c.requires.fit.1
               (c.count_choices-count.ensures ∙ ap (λ l. choices_by P (map instruction_of l)) (c.deref.ensures.value ∙ sym c.deref-2.ensures.value)),
           (
-            (e, small_let mid _ e listed (small_later old mid _ c.in_ok-is_large_choice.field-0 c.in_ok-is_large_choice.ensures.back c.if-branch.false c.in_ok-is_large_choice.ensures.large)),
-            (c.below-below.ensures, (next_fit next c.below-below.result c.below-below.ensures c.requires.fit.2, (left_few point (let_form choice) next otherwise refl c.below-below.result c.below-below.ensures c.requires.points, c.requires.copies))),
+            (e, small_let mid _ e listed looked.going (small_later old mid _ looked c.in_ok-looked.ensures.back c.if-looked.false c.in_ok-looked.ensures.looked)),
+            (c.requires.fit.2, (left_within point (let_form choice) next otherwise refl c.requires.points, c.requires.copies)),
           ),
         ),
       ),
@@ -565,30 +564,42 @@ visit_let-returns-in-Some-clause-ends g t c =
     let choice = c.args.choice.now in
     let e = expression_of choice.expression.now in
     let listed = ap (map instruction_of) c.deref-2.ensures.value ∙ c.in_ok-instructions.ensures in
-    let mid = g.B.Bank.trees c.is_large_choice.new.bank in
-    let end = g.B.Bank.trees c.visit_choices.new.bank in
+    let mid = g.B.Bank.trees c.look_at_choices.new.bank in
+    let end = g.B.Bank.trees c.visit_chosen.new.bank in
     let pattern = pattern_of choice.pattern.now in
     let next = process_of choice.next.now in
     let point = c.args.place.now.point in
     let all = map instruction_of c.deref-2.result.now in
     let rs = completions P all [] in
     let before = c.args.listing.now in
-    let after = c.visit_choices.new.listing in
+    let after = c.visit_chosen.new.listing in
     let ends = subst (λ (o : Option ℕ). EndsEach P (visit_at mid w) pattern rs next (point + 1) end before after o) c.in-Some.is c.in_ok-point.ensures.ends in
     next_large P v pattern e next (process_of choice.otherwise.now) point rs (completed_by P all e listed) (sym c.is_large_let.ensures ∙ c.if-is_large_let.false) end before after c.in-Some.point
-    (subst (λ (x : Visit). EndsEach P x pattern rs next (point + 1) end before after (Some c.in-Some.point)) (visit_later old mid w c.is_large_choice.ensures.grows c.requires.visit).is ends)
+    (subst (λ (x : Visit). EndsEach P x pattern rs next (point + 1) end before after (Some c.in-Some.point)) (visit_later old mid w c.look_at_choices.ensures.grows c.requires.visit).is ends)
+
+pub visit_let-else_visit-requires : goal.visit_let-else_visit-requires
+visit_let-else_visit-requires g t c =
+    let old = g.B.Bank.trees c.args.bank.now in
+    let mid = g.B.Bank.trees c.look_at_choices.new.bank in
+    let end = g.B.Bank.trees c.visit_chosen.new.bank in
+    let P = protocol_at c.args.place.now in
+    let w = c.args.visit.now in
+    let choice = c.args.choice.now in
+    let e = expression_of choice.expression.now in
+    let listed = ap (map instruction_of) c.deref-2.ensures.value ∙ c.in_ok-instructions.ensures in
+    let later = visit_later old end w (Grows_trans old mid end c.look_at_choices.ensures.grows c.visit_chosen.ensures.grows) c.requires.visit in
+    choosing_known end _ e listed later.known (omega (arith, c.requires.copies, left_point c.args.place.now.point (let_form choice) (process_of choice.next.now) (process_of choice.otherwise.now) refl c.requires.points)) c.requires.fit.1
+    (c.count_choices-count.ensures ∙ ap (λ l. choices_by P (map instruction_of l)) (c.deref.ensures.value ∙ sym c.deref-2.ensures.value))
 
 pub visit_let-visit_process-requires : goal.visit_let-visit_process-requires
 visit_let-visit_process-requires g t c κs within =
-    let old = g.B.Bank.trees c.args.bank.now in
-    let mid = g.B.Bank.trees c.is_large_choice.new.bank in
-    let end = g.B.Bank.trees c.visit_choices.new.bank in
     let w = c.args.visit.now in
     let choice = c.args.choice.now in
     let next = process_of choice.next.now in
     let otherwise = process_of choice.otherwise.now in
-    let later = visit_later old end w (Grows_trans old mid end c.is_large_choice.ensures.grows c.visit_choices.ensures.grows) c.requires.visit in
-    (omega (arith, c.decreases), (within, (later.known, (next_fit otherwise c.after-after.result c.after-after.ensures c.requires.fit.3, (right_few c.args.place.now.point (let_form choice) next otherwise refl c.after-after.result c.after-after.ensures c.requires.points, later_copies c.after-after.result c.args.place.now.point next w c.after-after.ensures c.requires.copies)))))
+    let made = c.in_ok-made-in-None.made in
+    let few = later_copies c.after-after.result c.args.place.now.point next w c.after-after.ensures c.requires.copies in
+    (omega (arith, c.decreases), (within, (c.in_ok-made-in-None.ensures.known, (next_fit otherwise c.after-after.result c.after-after.ensures c.requires.fit.3, (right_few c.args.place.now.point (let_form choice) next otherwise refl c.after-after.result c.after-after.ensures c.requires.points, omega (arith, few, ap length c.in_ok-made-in-None.ensures.sessions))))))
 
 pub visit_let-returns-clause-ends : goal.visit_let-returns-clause-ends
 visit_let-returns-clause-ends g t c =
@@ -599,20 +610,55 @@ visit_let-returns-clause-ends g t c =
     let choice = c.args.choice.now in
     let e = expression_of choice.expression.now in
     let listed = ap (map instruction_of) c.deref-2.ensures.value ∙ c.in_ok-instructions.ensures in
-    let mid = g.B.Bank.trees c.is_large_choice.new.bank in
-    let end = g.B.Bank.trees c.visit_choices.new.bank in
+    let mid = g.B.Bank.trees c.look_at_choices.new.bank in
+    let end = g.B.Bank.trees c.visit_chosen.new.bank in
+    let told = g.B.Bank.trees c.else_visit.new.bank in
+    let new = g.B.Bank.trees c.visit_process.new.bank in
     let pattern = pattern_of choice.pattern.now in
     let next = process_of choice.next.now in
+    let otherwise = process_of choice.otherwise.now in
     let point = c.args.place.now.point in
+    let to = c.after-after.result in
     let all = map instruction_of c.deref-2.result.now in
     let rs = completions P all [] in
     let before = c.args.listing.now in
-    let midway = c.visit_choices.new.listing in
+    let midway = c.visit_chosen.new.listing in
+    let after = c.visit_process.new.listing in
+    let made = c.in_ok-made-in-None.made in
     let ends = subst (λ (o : Option ℕ). EndsEach P (visit_at mid w) pattern rs next (point + 1) end before midway o) c.in-None.is c.in_ok-point.ensures.ends in
-    let first = subst (λ (x : Visit). EndsEach P x pattern rs next (point + 1) end before midway None) (visit_later old mid w c.is_large_choice.ensures.grows c.requires.visit).is ends in
-    let later = visit_later old end w (Grows_trans old mid end c.is_large_choice.ensures.grows c.visit_choices.ensures.grows) c.requires.visit in
-    let_ends P v pattern e next (process_of choice.otherwise.now) point rs (completed_by P all e listed) (sym c.is_large_let.ensures ∙ c.if-is_large_let.false)
-    c.visit_process.result c.after-after.result (visit_at end w) end (g.B.Bank.trees c.visit_process.new.bank) before midway c.visit_process.new.listing c.after-after.ensures later.is c.visit_process.ensures.grows first c.visit_process.ensures.ends
+    let first = subst (λ (x : Visit). EndsEach P x pattern rs next (point + 1) end before midway None) (visit_later old mid w c.look_at_choices.ensures.grows c.requires.visit).is ends in
+    let later = visit_later old end w (Grows_trans old mid end c.look_at_choices.ensures.grows c.visit_chosen.ensures.grows) c.requires.visit in
+    let besides = otherwise_visit P v pattern e in
+    let named : (otherwise ≡ calculus.Nil → ⊥) → visit_at told made ≡ besides =
+    λ some. (c.in_ok-made-in-None.ensures.names e (completed_by P all e listed) some).is ∙ ap (λ (x : Visit). otherwise_visit P x pattern e) later.is in
+    let here = else_ends c.visit_process.result (protocol_at to) otherwise to.point (visit_at told made) besides new midway after named c.visit_process.ensures.ends in
+    let_ends P v pattern e next otherwise point rs (completed_by P all e listed) (sym c.is_large_let.ensures ∙ c.if-is_large_let.false)
+    c.visit_process.result to besides end new before midway after c.after-after.ensures refl (Grows_trans end told new c.else_visit.ensures.grows c.visit_process.ensures.grows) first here
+
+-- those of a process that does nothing are counted
+pub visit_chosen-below-below-requires : goal.visit_chosen-below-below-requires
+visit_chosen-below-below-requires g t c = point_before c.args.choosing.now.place.now.point (process_of c.args.process.now) c.requires.points
+
+pub visit_chosen-returns-in-Nil-clause-ends : goal.visit_chosen-returns-in-Nil-clause-ends
+visit_chosen-returns-in-Nil-clause-ends g t c =
+    let old = g.B.Bank.trees c.args.bank.now in
+    let choosing = c.args.choosing.now in
+    let point = choosing.place.now.point + 1 in
+    let counts = c.count_visits.ensures in
+    let before = c.args.listing.now in
+    let after = c.count_visits.new.listing in
+    let going = c.args.going in
+    let large = c.count_visits.result in
+    let here = subst (λ n. MatchOption large (before.left ≡ after.left + going) (λ at. (at ≡ n) × (before.left < going))) c.below-below.ensures.point counts.counts in
+    subst (λ (p : calculus.Process). EndsEach (protocol_at choosing.place.now) (visit_at old choosing.visit.now) (pattern_of choosing.pattern.now) (choices_of choosing) p point old before after large) (sym (ap process_of c.in-Nil.is))
+    (counted_each old choosing c.requires.small.0 going point before after large c.requires.small.1 counts.clauses counts.keeps here)
+
+pub visit_chosen-visit_choices-requires : goal.visit_chosen-visit_choices-requires
+visit_chosen-visit_choices-requires g t c κs within =
+    let process = process_of c.args.process.now in
+    let below = c.below-below.result in
+    let small = c.requires.small in
+    (omega (arith, c.decreases), (within, (c.requires.known, ((small.0, c.args.going, small.1), (c.below-below.ensures, (next_fit process below c.below-below.ensures c.requires.fit, (at_point (c.args.choosing.now.place.now.point + 1) process below c.below-below.ensures c.requires.points, c.requires.copies)))))))
 
 -- the choices of a `let`
 pub visit_choices-each-init : goal.visit_choices-each-init
@@ -665,8 +711,8 @@ visit_choices-each-preserved g t c =
     let from_now = Grows_trans now mid next c.choices_from.ensures.grows c.visit_way.ensures.grows in
     let from_old = Grows_trans old now next c.each.invariant.grows from_now in
     let passes = passes_as old now mid choosing c.each.number passed c.each.invariant.grows c.requires.known c.in_ok-passed.ensures.passes in
-    let small = passed_small P v pattern rs sl.0 sl.1.are sl.1.small.outs sl.1.small.go sl.1.small.is process point old c.args.listing.now now c.each.listing c.each.number c.each.invariant mid next passed passes from_now from_old after in
-    more_visited P v pattern rs sl.0 sl.1.are sl.1.small.outs sl.1.small.go sl.1.small.is process point old c.args.listing.now now c.each.listing c.each.number c.each.invariant mid next passed passes from_now from_old after
+    let small = passed_small P v pattern rs sl.0 sl.2.are sl.2.small.outs sl.2.small.go sl.2.small.large process point old c.args.listing.now now c.each.listing c.each.number c.each.invariant mid next passed passes from_now from_old after in
+    more_visited P v pattern rs sl.0 sl.2.are sl.2.small.outs sl.2.small.go sl.2.small.large process point old c.args.listing.now now c.each.listing c.each.number c.each.invariant mid next passed passes from_now from_old after
     (moved_each P point c.args.place.now passes.outs process next c.each.listing after None c.requires.at
     (subst (λ (o : Option ℕ). Ends (protocol_at c.args.place.now) (Each process c.args.place.now.point passes.outs) next c.each.listing after o) c.in-None.is (c.in_ok-point.ensures.ends passes.outs small)))
 
@@ -689,8 +735,8 @@ visit_choices-each-preserved-in-None g t c =
     let from_now = Grows_trans now mid next c.choices_from.ensures.grows c.visit_way.ensures.grows in
     let from_old = Grows_trans old now next c.each.invariant.grows from_now in
     let passes = passes_as old now mid choosing c.each.number passed c.each.invariant.grows c.requires.known c.in_ok-passed.ensures.passes in
-    let small = passed_small P v pattern rs sl.0 sl.1.are sl.1.small.outs sl.1.small.go sl.1.small.is process point old c.args.listing.now now c.each.listing c.each.number c.each.invariant mid next passed passes from_now from_old after in
-    more_visited P v pattern rs sl.0 sl.1.are sl.1.small.outs sl.1.small.go sl.1.small.is process point old c.args.listing.now now c.each.listing c.each.number c.each.invariant mid next passed passes from_now from_old after
+    let small = passed_small P v pattern rs sl.0 sl.2.are sl.2.small.outs sl.2.small.go sl.2.small.large process point old c.args.listing.now now c.each.listing c.each.number c.each.invariant mid next passed passes from_now from_old after in
+    more_visited P v pattern rs sl.0 sl.2.are sl.2.small.outs sl.2.small.go sl.2.small.large process point old c.args.listing.now now c.each.listing c.each.number c.each.invariant mid next passed passes from_now from_old after
     (moved_each P point c.args.place.now passes.outs process next c.each.listing after None c.requires.at
     (subst (λ (o : Option ℕ). Ends (protocol_at c.args.place.now) (Each process c.args.place.now.point passes.outs) next c.each.listing after o) c.in-None.is (c.in_ok-point.ensures.ends passes.outs small)))
 
@@ -713,8 +759,8 @@ visit_choices-returns-in-Some-clause-ends g t c =
     let from_now = Grows_trans now mid next c.choices_from.ensures.grows c.visit_way.ensures.grows in
     let from_old = Grows_trans old now next c.each.invariant.grows from_now in
     let passes = passes_as old now mid choosing c.each.number passed c.each.invariant.grows c.requires.known c.in_ok-passed.ensures.passes in
-    let small = passed_small P v pattern rs sl.0 sl.1.are sl.1.small.outs sl.1.small.go sl.1.small.is process point old c.args.listing.now now c.each.listing c.each.number c.each.invariant mid next passed passes from_now from_old after in
-    large_visited P v pattern rs sl.0 sl.1.are sl.1.small.outs sl.1.small.go sl.1.small.is process point old c.args.listing.now now c.each.listing c.each.number c.each.invariant mid next passed passes from_now from_old after c.in-Some.point
+    let small = passed_small P v pattern rs sl.0 sl.2.are sl.2.small.outs sl.2.small.go sl.2.small.large process point old c.args.listing.now now c.each.listing c.each.number c.each.invariant mid next passed passes from_now from_old after in
+    large_visited P v pattern rs sl.0 sl.2.are sl.2.small.outs sl.2.small.go sl.2.small.large process point old c.args.listing.now now c.each.listing c.each.number c.each.invariant mid next passed passes from_now from_old after c.in-Some.point
     (moved_each P point c.args.place.now passes.outs process next c.each.listing after (Some c.in-Some.point) c.requires.at
     (subst (λ (o : Option ℕ). Ends (protocol_at c.args.place.now) (Each process c.args.place.now.point passes.outs) next c.each.listing after o) c.in-Some.is (c.in_ok-point.ensures.ends passes.outs small)))
 
@@ -723,7 +769,7 @@ visit_choices-returns-clause-ends g t c =
     let old = g.B.Bank.trees c.args.bank.now in
     let choosing = c.args.choosing.now in
     let sl = c.requires.small in
-    all_visited (protocol_at choosing.place.now) (visit_at old choosing.visit.now) (pattern_of choosing.pattern.now) (choices_of choosing) sl.0 sl.1.are sl.1.small.outs sl.1.small.go sl.1.small.is (process_of c.args.process.now) (choosing.place.now.point + 1) old c.args.listing.now
+    all_visited (protocol_at choosing.place.now) (visit_at old choosing.visit.now) (pattern_of choosing.pattern.now) (choices_of choosing) sl.0 sl.2.are sl.2.small.outs sl.2.small.go sl.2.small.large (process_of c.args.process.now) (choosing.place.now.point + 1) old c.args.listing.now
     (g.B.Bank.trees c.each.bank) c.each.listing c.each.number c.each.invariant (omega (arith, choices_counted old choosing c.requires.known, c.each-test.false))
 
 pub visit_way-visit_process-requires : goal.visit_way-visit_process-requires
@@ -754,24 +800,32 @@ visit_way-returns-in-Nowhere-clause-ends g t c =
 pub visit_let-returns-in_err-instructions-clause-grows : goal.visit_let-returns-in_err-instructions-clause-grows
 visit_let-returns-in_err-instructions-clause-grows g t c = Grows_refl (g.B.Bank.trees c.args.bank.now)
 
-pub visit_let-returns-in_err-is_large_choice-clause-grows : goal.visit_let-returns-in_err-is_large_choice-clause-grows
-visit_let-returns-in_err-is_large_choice-clause-grows g t c = c.is_large_choice.ensures.grows
+pub visit_let-returns-in_err-looked-clause-grows : goal.visit_let-returns-in_err-looked-clause-grows
+visit_let-returns-in_err-looked-clause-grows g t c = c.look_at_choices.ensures.grows
 
-pub visit_let-returns-then-branch-clause-grows : goal.visit_let-returns-then-branch-clause-grows
-visit_let-returns-then-branch-clause-grows g t c = c.is_large_choice.ensures.grows
+pub visit_let-returns-then-looked-clause-grows : goal.visit_let-returns-then-looked-clause-grows
+visit_let-returns-then-looked-clause-grows g t c = c.look_at_choices.ensures.grows
 
 pub visit_let-returns-in_err-point-clause-grows : goal.visit_let-returns-in_err-point-clause-grows
-visit_let-returns-in_err-point-clause-grows g t c = Grows_trans (g.B.Bank.trees c.args.bank.now) (g.B.Bank.trees c.is_large_choice.new.bank) (g.B.Bank.trees c.visit_choices.new.bank) c.is_large_choice.ensures.grows c.visit_choices.ensures.grows
+visit_let-returns-in_err-point-clause-grows g t c = Grows_trans (g.B.Bank.trees c.args.bank.now) (g.B.Bank.trees c.look_at_choices.new.bank) (g.B.Bank.trees c.visit_chosen.new.bank) c.look_at_choices.ensures.grows c.visit_chosen.ensures.grows
 
 pub visit_let-returns-in-Some-clause-grows : goal.visit_let-returns-in-Some-clause-grows
-visit_let-returns-in-Some-clause-grows g t c = Grows_trans (g.B.Bank.trees c.args.bank.now) (g.B.Bank.trees c.is_large_choice.new.bank) (g.B.Bank.trees c.visit_choices.new.bank) c.is_large_choice.ensures.grows c.visit_choices.ensures.grows
+visit_let-returns-in-Some-clause-grows g t c = Grows_trans (g.B.Bank.trees c.args.bank.now) (g.B.Bank.trees c.look_at_choices.new.bank) (g.B.Bank.trees c.visit_chosen.new.bank) c.look_at_choices.ensures.grows c.visit_chosen.ensures.grows
 
 pub visit_let-returns-clause-grows : goal.visit_let-returns-clause-grows
 visit_let-returns-clause-grows g t c =
     let old = g.B.Bank.trees c.args.bank.now in
-    let mid = g.B.Bank.trees c.is_large_choice.new.bank in
-    let end = g.B.Bank.trees c.visit_choices.new.bank in
-    Grows_trans old end (g.B.Bank.trees c.visit_process.new.bank) (Grows_trans old mid end c.is_large_choice.ensures.grows c.visit_choices.ensures.grows) c.visit_process.ensures.grows
+    let mid = g.B.Bank.trees c.look_at_choices.new.bank in
+    let end = g.B.Bank.trees c.visit_chosen.new.bank in
+    let told = g.B.Bank.trees c.else_visit.new.bank in
+    Grows_trans old end (g.B.Bank.trees c.visit_process.new.bank) (Grows_trans old mid end c.look_at_choices.ensures.grows c.visit_chosen.ensures.grows) (Grows_trans end told (g.B.Bank.trees c.visit_process.new.bank) c.else_visit.ensures.grows c.visit_process.ensures.grows)
+
+pub visit_let-returns-in_err-made-in-None-clause-grows : goal.visit_let-returns-in_err-made-in-None-clause-grows
+visit_let-returns-in_err-made-in-None-clause-grows g t c =
+    let old = g.B.Bank.trees c.args.bank.now in
+    let mid = g.B.Bank.trees c.look_at_choices.new.bank in
+    let end = g.B.Bank.trees c.visit_chosen.new.bank in
+    Grows_trans old end (g.B.Bank.trees c.else_visit.new.bank) (Grows_trans old mid end c.look_at_choices.ensures.grows c.visit_chosen.ensures.grows) c.else_visit.ensures.grows
 
 pub visit_choices-choices_from-requires-clause-within : goal.visit_choices-choices_from-requires-clause-within
 visit_choices-choices_from-requires-clause-within g t c = c.each-test.true

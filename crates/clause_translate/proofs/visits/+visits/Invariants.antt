@@ -10,49 +10,52 @@ use Rattle.clause_translate.proofs.Repeating.{AreVisited}
 use Rattle.clause_translate.proofs.visits.+visits.Given as goal
 
 abbrev pub decreases-visit_process : goal.decreases-visit_process
-decreases-visit_process g l = 6 * weight (process_of l.process.now) + 2
+decreases-visit_process g l = 7 * weight (process_of l.process.now) + 2
 
 abbrev pub decreases-visit_counted : goal.decreases-visit_counted
-decreases-visit_counted g l = 6 * weight (process_of l.process.now) + 1
+decreases-visit_counted g l = 7 * weight (process_of l.process.now) + 1
 
 abbrev pub decreases-visit_form : goal.decreases-visit_form
-decreases-visit_form g l = 6 * weight (process_of l.process.now)
+decreases-visit_form g l = 7 * weight (process_of l.process.now)
 
 abbrev pub decreases-visit_way : goal.decreases-visit_way
-decreases-visit_way g l = 6 * weight (process_of l.process.now) + 3
+decreases-visit_way g l = 7 * weight (process_of l.process.now) + 3
 
 abbrev pub decreases-visit_choices : goal.decreases-visit_choices
-decreases-visit_choices g l = 6 * weight (process_of l.process.now) + 4
+decreases-visit_choices g l = 7 * weight (process_of l.process.now) + 4
+
+abbrev pub decreases-visit_chosen : goal.decreases-visit_chosen
+decreases-visit_chosen g l = 7 * weight (process_of l.process.now) + 5
 
 abbrev pub decreases-visit_output : goal.decreases-visit_output
-decreases-visit_output g l = 6 * weight (process_of l.output.now.next.now) + 5
+decreases-visit_output g l = 7 * weight (process_of l.output.now.next.now) + 6
 
 abbrev pub decreases-visit_input : goal.decreases-visit_input
-decreases-visit_input g l = 6 * weight (process_of l.input.now.next.now) + 5
+decreases-visit_input g l = 7 * weight (process_of l.input.now.next.now) + 6
 
 abbrev pub decreases-visit_copies : goal.decreases-visit_copies
-decreases-visit_copies g l = 6 * weight (process_of l.copied.now) + 5
+decreases-visit_copies g l = 7 * weight (process_of l.copied.now) + 6
 
 abbrev pub decreases-visit_new : goal.decreases-visit_new
-decreases-visit_new g l = 6 * weight (process_of l.next.now) + 5
+decreases-visit_new g l = 7 * weight (process_of l.next.now) + 6
 
 abbrev pub decreases-visit_event : goal.decreases-visit_event
-decreases-visit_event g l = 6 * weight (process_of l.event.now.next.now) + 5
+decreases-visit_event g l = 7 * weight (process_of l.event.now.next.now) + 6
 
 abbrev pub decreases-visit_phase : goal.decreases-visit_phase
-decreases-visit_phase g l = 6 * weight (process_of l.phase.now.next.now) + 5
+decreases-visit_phase g l = 7 * weight (process_of l.phase.now.next.now) + 6
 
 abbrev pub decreases-visit_insert : goal.decreases-visit_insert
-decreases-visit_insert g l = 6 * weight (process_of l.insert.now.next.now) + 5
+decreases-visit_insert g l = 7 * weight (process_of l.insert.now.next.now) + 6
 
 abbrev pub decreases-visit_get : goal.decreases-visit_get
-decreases-visit_get g l = 6 * (weight (process_of l.get.now.next.now) + weight (process_of l.get.now.otherwise.now)) + 5
+decreases-visit_get g l = 7 * (weight (process_of l.get.now.next.now) + weight (process_of l.get.now.otherwise.now)) + 6
 
 abbrev pub decreases-visit_parallel : goal.decreases-visit_parallel
-decreases-visit_parallel g l = 6 * (weight (process_of l.both.now.left.now) + weight (process_of l.both.now.right.now)) + 5
+decreases-visit_parallel g l = 7 * (weight (process_of l.both.now.left.now) + weight (process_of l.both.now.right.now)) + 6
 
 abbrev pub decreases-visit_let : goal.decreases-visit_let
-decreases-visit_let g l = 6 * (weight (process_of l.choice.now.next.now) + weight (process_of l.choice.now.otherwise.now)) + 5
+decreases-visit_let g l = 7 * (weight (process_of l.choice.now.next.now) + weight (process_of l.choice.now.otherwise.now)) + 6
 
 abbrev pub invariant-visit_choices-each : goal.invariant-visit_choices-each
 invariant-visit_choices-each g l =

@@ -1,9 +1,8 @@
-use Rattle.std.proofs.Common.{◌≡◌, ◌∙◌, ◌-◌, ◌<◌, ◌≤◌, map, length, get_or, ap, sym, subst, rc_value, arith}
+use Rattle.std.proofs.Common.{◌≡◌, ◌∙◌, ◌<◌, ◌≤◌, map, length, get_or, ap, sym, subst, rc_value, arith}
 use Rattle.std.proofs.lemmas.List.{length-map, get_or-map, take_all}
 use Rattle.spec_terms.specs.Term.{Term}
-use Rattle.spec_clauses.specs.Fact.{Clause, total}
-use Rattle.spec_clauses.specs.Diff.{diff_size}
-use Rattle.spec_node_tables.specs.Table.{facts_in_order}
+use Rattle.spec_clauses.specs.Fact.{Clause}
+use Rattle.spec_node_tables.specs.Large.{pieces}
 use Rattle.node_table.specs.Room.{room_behind_next}
 use Rattle.node_table.proofs.Rooms.{AreCounted, none_counted, counted_on, next_large, fits}
 use Rattle.node_table.proofs.sizes.is_large_in_nodes.Goals as goal
@@ -18,7 +17,7 @@ returns-in-None c =
     let x = c.clause-item.result in
     let within : i < length (map rc_value held) = omega (arith, c.each-test.true, length-map held rc_value) in
     let at : rc_value x ≡ get_or (map rc_value held) i (rc_value x) = ap rc_value c.clause-item.is ∙ sym (get_or-map rc_value held i x (rc_value x) c.each-test.true) in
-    next_large (map rc_value held) i c.each.left (rc_value x) c.each.invariant within at (c.in-None.ensures ∙ ap (λ (d : Clause Term). room_behind_next c.each.left (facts_in_order d)) c.deref.ensures)
+    next_large (map rc_value held) i c.each.left (rc_value x) c.each.invariant within at (c.in-None.ensures ∙ ap (λ (d : Clause Term). room_behind_next c.each.left (pieces d)) c.deref.ensures)
 
 pub each-preserved : goal.each-preserved
 each-preserved c =
@@ -27,9 +26,7 @@ each-preserved c =
     let x = c.clause-item.result in
     let within : i < length (map rc_value held) = omega (arith, c.each-test.true, length-map held rc_value) in
     let at : rc_value x ≡ get_or (map rc_value held) i (rc_value x) = ap rc_value c.clause-item.is ∙ sym (get_or-map rc_value held i x (rc_value x) c.each-test.true) in
-    let behind : c.room_behind_diffs-left.result ≡ c.in-Some.less - total diff_size (rc_value x).diffs =
-    c.room_behind_diffs-left.ensures ∙ ap (λ (d : Clause Term). c.in-Some.less - total diff_size d.diffs) c.deref-in-Some.ensures in
-    counted_on (map rc_value held) i (rc_value x) c.each.left c.in-Some.less c.room_behind_diffs-left.result c.each.invariant within at (c.in-Some.ensures ∙ ap (λ (d : Clause Term). room_behind_next c.each.left (facts_in_order d)) c.deref.ensures) behind
+    counted_on (map rc_value held) i (rc_value x) c.each.left c.in-Some.less c.each.invariant within at (c.in-Some.ensures ∙ ap (λ (d : Clause Term). room_behind_next c.each.left (pieces d)) c.deref.ensures)
 
 pub returns : goal.returns
 returns c =

@@ -1,10 +1,11 @@
-use Rattle.std.proofs.Common.{◌≡◌, ◌∙◌, true, false, take, drop, ap, sym, arith}
+use Rattle.std.proofs.Common.{◌≡◌, ◌∙◌, true, false, take, drop, refl, ap, sym, arith}
 use Rattle.pi_tree.specs.Patterns.{pattern_of}
 use Rattle.term_tree.proofs.BankLaws.{Grows_same, take-grows, Grows-length}
 use Rattle.process_visits.specs.Places.{protocol_at}
-use Rattle.process_visits.specs.Visits.{visit_at}
+use Rattle.process_visits.specs.Visits.{visit_at, NamesVisit}
 use Rattle.process_visits.specs.Walks.{choices_of}
-use Rattle.process_visits.proofs.Passing.{passes_back}
+use Rattle.process_visits.proofs.ButForDiffs.{like_itself}
+use Rattle.process_visits.proofs.Passing.{passes_back, passes_told}
 use Rattle.process_visits.proofs.choices.choices_from.Goals as goal
 
 pub returns-in_err-passed-clause-grows : goal.returns-in_err-passed-clause-grows
@@ -17,7 +18,14 @@ pub returns-then-not-is_nowhere-clause-back : goal.returns-then-not-is_nowhere-c
 returns-then-not-is_nowhere-clause-back g c = λ e. absurd (let same : false ≡ true = sym c.if-not-is_nowhere.true ∙ (c.is_nowhere.ensures.is ∙ e) in cc)
 
 pub returns-then-not-is_nowhere-clause-passes : goal.returns-then-not-is_nowhere-clause-passes
-returns-then-not-is_nowhere-clause-passes g c = c.in_ok-passed.ensures.passes
+returns-then-not-is_nowhere-clause-passes g c =
+    let choosing = c.args.choosing.now in
+    let w = choosing.visit.now in
+    let new = g.B.Bank.trees c.walk_to.new.bank in
+    passes_told (protocol_at choosing.place.now) (visit_at (g.B.Bank.trees c.args.bank.now) w) (pattern_of choosing.pattern.now) (drop c.args.number (choices_of choosing)) (λ m o. w ≡ w → NamesVisit new m o) (NamesVisit new) c.in_ok-passed.passed (λ m o told. told refl) c.in_ok-passed.ensures.passes
+
+pub walk_to-requires-clause-like : goal.walk_to-requires-clause-like
+walk_to-requires-clause-like g c = like_itself (g.B.Bank.trees c.args.bank.now) c.args.choosing.now.visit.now c.requires.known.visit
 
 pub back-requires : goal.back-requires
 back-requires g c = omega (arith, c.mark-mark.ensures, Grows-length (g.B.Bank.trees c.args.bank.now) (g.B.Bank.trees c.walk_to.new.bank) c.walk_to.ensures.grows)
@@ -36,5 +44,6 @@ returns-clause-back g c =
 pub returns-clause-passes : goal.returns-clause-passes
 returns-clause-passes g c =
     let choosing = c.args.choosing.now in
-    passes_back (protocol_at choosing.place.now) (visit_at (g.B.Bank.trees c.args.bank.now) choosing.visit.now) (pattern_of choosing.pattern.now) (drop c.args.number (choices_of choosing)) (g.B.Bank.trees c.walk_to.new.bank) (g.B.Bank.trees c.back.new.self) c.in_ok-passed.passed
+    let w = choosing.visit.now in
+    passes_back (protocol_at choosing.place.now) (visit_at (g.B.Bank.trees c.args.bank.now) w) (pattern_of choosing.pattern.now) (drop c.args.number (choices_of choosing)) (λ m o. w ≡ w → NamesVisit (g.B.Bank.trees c.walk_to.new.bank) m o) (NamesVisit (g.B.Bank.trees c.back.new.self)) c.in_ok-passed.passed
     (c.is_nowhere.ensures.way c.if-not-is_nowhere.false) c.in_ok-passed.ensures.passes

@@ -1,7 +1,8 @@
-use Rattle.std.proofs.Common.{◌≡◌, ◌+◌, true, Some, None, [], ◌∷◌, refl, subst, arith}
+use Rattle.std.proofs.Common.{◌≡◌, ◌∙◌, ap, true, Some, None, [], ◌∷◌, refl, subst, arith}
 use Rattle.pi_tree.specs.Patterns.{pattern_of}
 use Rattle.spec_terms.specs.Binding.{resolved}
 use Rattle.spec_translation.specs.Conversion.{term_in, rule_term}
+use Rattle.spec_translation.specs.Choice.{with_pattern}
 use Rattle.spec_translation.specs.Visit.{Visit, visit_under, is_large_visit}
 use Rattle.spec_translation.specs.Applied.{ruled_term}
 use Rattle.term_tree.specs.Bank.{tree_at}
@@ -9,10 +10,11 @@ use Rattle.term_tree.proofs.BankLaws.{Grows_trans, Names-grows}
 use Rattle.unify_match.specs.Seen.{seen}
 use Rattle.unify_match.specs.Outcome.{Unified, NoUnifier}
 use Rattle.process_visits.specs.declared.ways.Way.TheVariants as ways
-use Rattle.process_visits.specs.Patterns.{WithPattern}
+use Rattle.process_visits.specs.declared.visit.Visit as source
 use Rattle.process_visits.specs.Places.{protocol_at}
-use Rattle.process_visits.specs.Visits.{visit_at}
-use Rattle.process_visits.proofs.Choosing.{chosen_nowhere, chosen_below, chosen_there, named_alone, way_is, made_known}
+use Rattle.process_visits.specs.Visits.{visit_at, NamesVisit}
+use Rattle.process_visits.proofs.ButForDiffs.{like_trees}
+use Rattle.process_visits.proofs.Choosing.{chosen_nowhere, chosen_below, chosen_there, large_as, went_as, named_alone, way_is, made_known}
 use Rattle.process_visits.proofs.Happening.{if_true, if_false}
 use Rattle.process_visits.proofs.Passing.{at_end, one_passes}
 use Rattle.process_visits.proofs.RuledRows.{ids_counted, row_grows}
@@ -56,6 +58,7 @@ returns-then-not-branch-clause-passes g c =
     let P = protocol_at c.args.choosing.now.place.now in
     let w = c.args.choosing.now.visit.now in
     let row = c.args.walk.now.row in
+    let x = c.args.visit.now in
     let pattern = pattern_of c.args.choosing.now.pattern.now in
     let value = c.index-value.result.now in
     let made = c.in_ok-made.made in
@@ -66,10 +69,10 @@ returns-then-not-branch-clause-passes g c =
     λ v rs was.
     let end = at_end P w v rs old c.args.walk.now was in
     let t = ruled_term P (term_in P v.scope) (rule_term P) w.next end.ruled in
-    let bound = subst (λ (x : Visit). WithPattern P x pattern (row.next + 1) mid made target) end.row.visit.is c.in_ok-made.ensures.names in
+    let same = like_trees old w x v c.requires.like.is end.row.visit.is in
     let named = Names-grows old mid value t c.with_pattern.ensures.grows (named_alone old row.ids.items t value end.row.terms c.index-value.ensures) in
-    one_passes P v pattern rs mid end.ruled end.more ways.Nowhere None end.are
-    (chosen_nowhere P w v pattern end.ruled mid row (row_grows P w v old mid (end.ruled ∷ []) row c.with_pattern.ensures.grows end.row) made target bound value named never) refl
+    one_passes P v pattern rs (λ m o. x ≡ w → NamesVisit mid m o) end.ruled end.more ways.Nowhere None end.are
+    (chosen_nowhere P w v pattern end.ruled mid row (row_grows P w v old mid (end.ruled ∷ []) row c.with_pattern.ensures.grows end.row) (visit_at old x) same made target c.in_ok-made.ensures.names value named never) (refl, tt)
 
 pub visit_under-requires-clause-below : goal.visit_under-requires-clause-below
 visit_under-requires-clause-below g c =
@@ -78,6 +81,7 @@ visit_under-requires-clause-below g c =
     let P = protocol_at c.args.choosing.now.place.now in
     let w = c.args.choosing.now.visit.now in
     let row = c.args.walk.now.row in
+    let x = c.args.visit.now in
     let pattern = pattern_of c.args.choosing.now.pattern.now in
     let value = c.index-value.result.now in
     let made = c.in_ok-made.made in
@@ -89,9 +93,9 @@ visit_under-requires-clause-below g c =
     let v = has.0 in
     let end = at_end P w v has.1 old c.args.walk.now has.2 in
     let t = ruled_term P (term_in P v.scope) (rule_term P) w.next end.ruled in
-    let bound = subst (λ (x : Visit). WithPattern P x pattern (row.next + 1) mid made target) end.row.visit.is c.in_ok-made.ensures.names in
+    let same = like_trees old w x v c.requires.like.is end.row.visit.is in
     let named = Names-grows old mid value t c.with_pattern.ensures.grows (named_alone old row.ids.items t value end.row.terms c.index-value.ensures) in
-    chosen_below P w v pattern end.ruled mid row (row_grows P w v old mid (end.ruled ∷ []) row c.with_pattern.ensures.grows end.row) made target bound value named c.unify.new.binds.pairs c.in_ok-unify.ensures.ready unified
+    chosen_below P w v pattern end.ruled mid row (row_grows P w v old mid (end.ruled ∷ []) row c.with_pattern.ensures.grows end.row) (visit_at old x) same made target c.in_ok-made.ensures.names value named c.unify.new.binds.pairs c.in_ok-unify.ensures.ready unified
 
 pub returns-clause-passes : goal.returns-clause-passes
 returns-clause-passes g c =
@@ -101,6 +105,7 @@ returns-clause-passes g c =
     let P = protocol_at c.args.choosing.now.place.now in
     let w = c.args.choosing.now.visit.now in
     let row = c.args.walk.now.row in
+    let x = c.args.visit.now in
     let pattern = pattern_of c.args.choosing.now.pattern.now in
     let value = c.index-value.result.now in
     let made = c.in_ok-made.made in
@@ -108,25 +113,31 @@ returns-clause-passes g c =
     let pairs = c.unify.new.binds.pairs in
     let a = tree_at mid value in
     let b = tree_at mid target in
-    let x = visit_under (resolved (seen mid pairs)) (visit_at mid made) in
+    let s = resolved (seen mid pairs) in
+    let bound = c.in_ok-made.ensures.names in
     let unified = if_true c.in_ok-unify.field-0 (Unified mid row.binds.pairs pairs a b) (NoUnifier mid row.binds.pairs a b) c.if-not-branch.false c.in_ok-unify.ensures.outcome in
     λ v rs was.
     let end = at_end P w v rs old c.args.walk.now was in
     let t = ruled_term P (term_in P v.scope) (rule_term P) w.next end.ruled in
-    let bound = subst (λ (y : Visit). WithPattern P y pattern (row.next + 1) mid made target) end.row.visit.is c.in_ok-made.ensures.names in
+    let same = like_trees old w x v c.requires.like.is end.row.visit.is in
     let named = Names-grows old mid value t c.with_pattern.ensures.grows (named_alone old row.ids.items t value end.row.terms c.index-value.ensures) in
-    one_passes P v pattern rs new end.ruled end.more c.way_to.result (Some x) end.are
-    (chosen_there P w v pattern end.ruled mid row (row_grows P w v old mid (end.ruled ∷ []) row c.with_pattern.ensures.grows end.row) made target bound value named pairs c.in_ok-unify.ensures.ready unified)
-    (way_is new x c.in_ok-found.found c.way_to.result c.in_ok-found.ensures.under c.way_to.ensures)
+    let grown = row_grows P w v old mid (end.ruled ∷ []) row c.with_pattern.ensures.grows end.row in
+    let under = visit_under s (visit_at mid made) in
+    let went = visit_under s (with_pattern v pattern bound.at) in
+    let told : (m : source.Visit) → NamesVisit new m under → x ≡ w → NamesVisit new m went = λ m names e.
+    subst (λ (y : Visit). NamesVisit new m y) (went_as P w v pattern end.ruled mid row grown (visit_at old x) same made target bound s (ap (visit_at old) e ∙ end.row.visit.is)) names in
+    one_passes P v pattern rs (λ m o. x ≡ w → NamesVisit new m o) end.ruled end.more c.way_to.result (Some went) end.are
+    (chosen_there P w v pattern end.ruled mid row grown (visit_at old x) same made target bound value named pairs c.in_ok-unify.ensures.ready unified)
+    (way_is (λ m o. x ≡ w → NamesVisit new m o) new under went (large_as P w v pattern end.ruled mid row grown (visit_at old x) same made target bound s) told c.in_ok-found.found c.way_to.result c.in_ok-found.ensures.under c.way_to.ensures)
 
 pub overflow_add-from : goal.overflow_add-from
 overflow_add-from g c = omega (arith, c.requires.stands.2.fit.room)
 
 pub with_pattern-requires-clause-visit : goal.with_pattern-requires-clause-visit
-with_pattern-requires-clause-visit g c = c.requires.stands.2.row.visit.known
+with_pattern-requires-clause-visit g c = c.requires.like.known
 
 pub with_pattern-requires-clause-up : goal.with_pattern-requires-clause-up
-with_pattern-requires-clause-up g c = omega (arith, c.requires.stands.2.row.next_is)
+with_pattern-requires-clause-up g c = omega (arith, c.requires.stands.2.row.next_is, ap (λ (v : source.Visit). v.next) c.requires.like.is)
 
 pub unify-requires-clause-right_known : goal.unify-requires-clause-right_known
 unify-requires-clause-right_known g c = c.in_ok-made.ensures.names.term.known

@@ -1,10 +1,12 @@
-use Rattle.std.proofs.Common.{◌+◌, ◌-◌, map, drop, arith}
+use Rattle.std.proofs.Common.{◌≡◌, ◌+◌, ◌-◌, map, drop, arith}
 use Rattle.pi_tree.specs.Patterns.{pattern_of}
 use Rattle.term_tree.proofs.BankLaws.{Grows_refl, Grows_trans}
 use Rattle.term_values.specs.Instructions.{instruction_of}
 use Rattle.process_visits.specs.Places.{protocol_at}
 use Rattle.process_visits.specs.Walks.{IsAlong}
 use Rattle.process_visits.specs.Ways.{AreCut}
+use Rattle.process_visits.specs.Visits.{NamesVisit}
+use Rattle.process_visits.proofs.ButForDiffs.{like_later}
 use Rattle.process_visits.proofs.Happening.{if_true, if_false}
 use Rattle.process_visits.proofs.Passing.{cut_passes}
 use Rattle.process_visits.proofs.Walking.{along_at, along_end}
@@ -52,7 +54,7 @@ returns-then-not-branch-clause-passes g c =
     let walk = c.step.new.walk in
     λ v rs was.
     let here = along_at P w v now all i c.instruction-item.result rs c.each.walk c.each-test.true c.instruction-item.is (c.each.invariant.along v rs was) in
-    cut_passes P v pattern rs new (walk.left - walk.number) (if_false c.in_ok-step.field-0 (IsAlong P w v later rs new walk) (AreCut P v pattern rs (walk.left - walk.number)) c.if-not-branch.true (c.in_ok-step.ensures.along v later rs here))
+    cut_passes P v pattern rs (λ m o. c.args.visit.now ≡ w → NamesVisit new m o) (walk.left - walk.number) (if_false c.in_ok-step.field-0 (IsAlong P w v later rs new walk) (AreCut P v pattern rs (walk.left - walk.number)) c.if-not-branch.true (c.in_ok-step.ensures.along v later rs here))
 
 pub each-preserved : goal.each-preserved
 each-preserved g c =
@@ -77,7 +79,10 @@ finish-requires g c =
     let P = protocol_at c.args.choosing.now.place.now in
     let w = c.args.choosing.now.visit.now in
     let has = c.requires.stands in
-    record { stands = (has.0, has.1, along_end P w has.0 (g.B.Bank.trees c.each.bank) c.args.choosing.now.instructions.now c.each.instruction-index has.1 c.each.walk c.each-test.false (c.each.invariant.along has.0 has.1 has.2)) }
+    record {
+      stands = (has.0, has.1, along_end P w has.0 (g.B.Bank.trees c.each.bank) c.args.choosing.now.instructions.now c.each.instruction-index has.1 c.each.walk c.each-test.false (c.each.invariant.along has.0 has.1 has.2));
+      like = like_later (g.B.Bank.trees c.args.bank.now) (g.B.Bank.trees c.each.bank) w c.args.visit.now c.each.invariant.grows c.requires.like;
+    }
 
 pub returns-clause-passes : goal.returns-clause-passes
 returns-clause-passes g c =

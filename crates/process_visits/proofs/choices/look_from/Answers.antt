@@ -1,5 +1,6 @@
-use Rattle.std.proofs.Common.{take, ap, ◌∙◌, arith}
+use Rattle.std.proofs.Common.{◌≡◌, take, ap, ◌∙◌, arith}
 use Rattle.term_tree.proofs.BankLaws.{Grows_same, take-grows, Grows-length}
+use Rattle.process_visits.specs.Visits.{NamesVisit}
 use Rattle.process_visits.proofs.Passing.{looks_at}
 use Rattle.process_visits.proofs.choices.look_from.Goals as goal
 
@@ -11,7 +12,8 @@ returns-clause-grows g c =
 
 pub returns-clause-looks : goal.returns-clause-looks
 returns-clause-looks g c =
-    looks_at (g.B.Bank.trees c.args.bank.now) c.args.choosing.now c.requires.known (g.B.Bank.trees c.walk_to.new.bank) c.args.number c.in_ok-passed.passed c.is_large.result c.requires.within c.is_large.ensures c.in_ok-passed.ensures.passes
+    let choosing = c.args.choosing.now in
+    looks_at (g.B.Bank.trees c.args.bank.now) choosing c.requires.known (λ m o. c.args.bare.now ≡ choosing.visit.now → NamesVisit (g.B.Bank.trees c.walk_to.new.bank) m o) c.args.number c.in_ok-passed.passed c.looked.result c.requires.within c.looked.ensures.large c.looked.ensures.going c.in_ok-passed.ensures.passes
 
 pub back-requires : goal.back-requires
 back-requires g c = omega (arith, c.mark-mark.ensures, Grows-length (g.B.Bank.trees c.args.bank.now) (g.B.Bank.trees c.walk_to.new.bank) c.walk_to.ensures.grows)

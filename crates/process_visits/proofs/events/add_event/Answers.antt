@@ -1,9 +1,13 @@
-use Rattle.std.proofs.Common.{◌≡◌, true, false, Option, map, ap, sym, subst, ◌∙◌}
+use Rattle.std.proofs.Common.{◌≡◌, true, false, Option, map, sym, subst, ◌∙◌}
 use Rattle.term_tree.specs.Bank.{tree_at}
 use Rattle.term_tree.proofs.BankLaws.{Grows_trans, Grows_refl}
 use Rattle.spec_clauses.specs.Variables.{AreBelow}
 use Rattle.spec_clauses.specs.Limits.{is_large_raw}
 use Rattle.spec_clauses.specs.Norm.{norms}
+use Rattle.spec_clauses.specs.Fact.{Clause}
+use Rattle.spec_clauses.specs.Renaming.{DifferInBound}
+use Rattle.spec_clauses.proofs.NormTidied.{same_norms}
+use Rattle.spec_terms.specs.Term.{Term}
 use Rattle.pi_tree.specs.Events.{event_of}
 use Rattle.spec_translation.specs.Visit.{event_terms, after_event}
 use Rattle.clause_form.specs.Seen.{clause_at}
@@ -13,6 +17,7 @@ use Rattle.process_visits.specs.Forms.{Adds, raw_event, below_event, event_raw, 
 use Rattle.process_visits.specs.Places.{protocol_at}
 use Rattle.process_visits.specs.Visits.{visit_at}
 use Rattle.process_visits.proofs.Named.{if_ok, visit_later, below_parts}
+use Rattle.process_visits.proofs.Adding.{same_large_raw}
 use Rattle.process_visits.proofs.Below.{terms_in_below}
 use Rattle.process_visits.proofs.Happening.{event_named, event_first, event_second, event_last, if_true, if_false}
 use Rattle.process_visits.proofs.events.add_event.Goals as goal
@@ -61,10 +66,12 @@ returns-then-added-clause-adds g c =
     let at_new = (visit_later old new w grows c.requires.visit).is in
     let small = sym c.some_large_term.ensures ∙ c.if-some_large_term.false in
     let named = event_named mid w e.event c.in_ok-arguments.arguments c.in_ok-raw.raw at_mid.known names.known c.in_ok-raw.ensures in
-    let raw_is : clause_at mid c.in_ok-raw.raw ≡ event_raw P v e = named.is ∙ (λ i. raw_event (at_mid.is i) e.event (names.are i)) in
-    let raw : is_large_raw (event_raw P v e) ≡ false = sym (ap is_large_raw raw_is) ∙ c.in_ok-added.ensures.small c.if-added.true in
+    let raw_so : raw_event (visit_at mid w) e.event (map (tree_at mid) c.in_ok-arguments.arguments) ≡ event_raw P v e = λ i. raw_event (at_mid.is i) e.event (names.are i) in
+    let differ = subst (λ (d : Clause Term). DifferInBound (clause_at mid c.in_ok-raw.raw) d) raw_so named.differ in
+    let raw_is = same_large_raw (clause_at mid c.in_ok-raw.raw) (event_raw P v e) differ in
+    let raw : is_large_raw (event_raw P v e) ≡ false = sym raw_is ∙ c.in_ok-added.ensures.small c.if-added.true in
     let adds : Adds new c.args.listing.now c.add.new.self (norms (event_raw P v e)) =
-    subst (λ x. Adds new c.args.listing.now c.add.new.self (norms x)) raw_is
+    subst (λ cs. Adds new c.args.listing.now c.add.new.self cs) (same_norms (clause_at mid c.in_ok-raw.raw) (event_raw P v e) differ)
     (if_true c.in_ok-added.added (Adds new c.args.listing.now c.add.new.self (norms (clause_at mid c.in_ok-raw.raw))) (is_large_raw (clause_at mid c.in_ok-raw.raw) ≡ true) c.if-added.true c.in_ok-added.ensures.adds) in
     let below_is : below_event (visit_at new w) e.event (map (tree_at new) c.in_ok-arguments.arguments) ≡ after_event P v e = λ i. below_event (at_new i) e.event (later.are i) in
     if_ok c.event_below.result (λ (found : Option Visit). IsSmallVisit new (below_event (visit_at new w) e.event (map (tree_at new) c.in_ok-arguments.arguments)) found)
@@ -83,9 +90,11 @@ returns-clause-adds g c =
     let names = c.in_ok-arguments.ensures.names in
     let at_mid = visit_later old mid w c.terms_in.ensures.grows c.requires.visit in
     let named = event_named mid w e.event c.in_ok-arguments.arguments c.in_ok-raw.raw at_mid.known names.known c.in_ok-raw.ensures in
-    let raw_is : clause_at mid c.in_ok-raw.raw ≡ event_raw P v e = named.is ∙ (λ i. raw_event (at_mid.is i) e.event (names.are i)) in
+    let raw_so : raw_event (visit_at mid w) e.event (map (tree_at mid) c.in_ok-arguments.arguments) ≡ event_raw P v e = λ i. raw_event (at_mid.is i) e.event (names.are i) in
+    let differ = subst (λ (d : Clause Term). DifferInBound (clause_at mid c.in_ok-raw.raw) d) raw_so named.differ in
+    let raw_is = same_large_raw (clause_at mid c.in_ok-raw.raw) (event_raw P v e) differ in
     event_second P v e
-    (sym (ap is_large_raw raw_is) ∙ if_false c.in_ok-added.added (Adds new c.args.listing.now c.add.new.self (norms (clause_at mid c.in_ok-raw.raw))) (is_large_raw (clause_at mid c.in_ok-raw.raw) ≡ true) c.if-added.false c.in_ok-added.ensures.adds)
+    (sym raw_is ∙ if_false c.in_ok-added.added (Adds new c.args.listing.now c.add.new.self (norms (clause_at mid c.in_ok-raw.raw))) (is_large_raw (clause_at mid c.in_ok-raw.raw) ≡ true) c.if-added.false c.in_ok-added.ensures.adds)
 
 pub returns-in_err-added-clause-grows : goal.returns-in_err-added-clause-grows
 returns-in_err-added-clause-grows g c = Grows_trans (g.B.Bank.trees c.args.bank.now) (g.B.Bank.trees c.terms_in.new.bank) (g.B.Bank.trees c.add.new.bank) c.terms_in.ensures.grows c.add.ensures.grows

@@ -1,10 +1,10 @@
-use Rattle.std.proofs.Common.{refl, sym, subst}
+use Rattle.std.proofs.Common.{sym, subst}
 use Rattle.spec_clauses.specs.Fact.{Tab}
-use Rattle.spec_translation.specs.Visit.{written_terms, raw_clause}
-use Rattle.clause_form.specs.Seen.{NameFacts, NamesClause}
+use Rattle.spec_translation.specs.Visit.{written_terms}
+use Rattle.clause_form.specs.Seen.{NameFacts}
 use Rattle.process_visits.specs.Places.{protocol_at}
-use Rattle.process_visits.specs.Visits.{visit_at}
-use Rattle.process_visits.proofs.Named.{hypotheses_later}
+use Rattle.process_visits.specs.Visits.{visit_at, ShowDiffs}
+use Rattle.process_visits.proofs.Named.{hypotheses_later, diffs_later}
 use Rattle.process_visits.proofs.Adding.{raw_named}
 use Rattle.term_tree.proofs.BankLaws.{Grows_refl}
 use Rattle.process_visits.proofs.inserts.insert_clause.Goals as goal
@@ -18,10 +18,13 @@ returns-clause-names g c =
     let insert = c.args.insert.now in
     let names = c.in_ok-arguments.ensures.names in
     let fact = Tab insert.table (written_terms P v insert.arguments.now) in
-    subst (λ ds. NamesClause new (record { hypotheses = c.in_ok-hyps.hyps; diffs = ds; conclusion = Tab insert.table c.in_ok-arguments.arguments }) (raw_clause v fact)) (sym c.new.ensures)
-    (raw_named new c.in_ok-hyps.hyps (Tab insert.table c.in_ok-arguments.arguments) v fact
+    raw_named new c.in_ok-hyps.hyps c.in_ok-diffs.diffs (Tab insert.table c.in_ok-arguments.arguments) v fact
     (subst (λ hs. NameFacts new hs v.hypotheses) (sym c.in_ok-hyps.ensures) (hypotheses_later old new c.args.visit.now c.terms_in.ensures.grows c.requires.visit))
-    (record { known = names.known; is = λ i. Tab insert.table (names.are i) }) refl)
+    (subst (λ ds. ShowDiffs new ds v.diffs) (sym c.in_ok-diffs.ensures) (diffs_later old new c.args.visit.now c.terms_in.ensures.grows c.requires.visit))
+    record { known = names.known; is = λ i. Tab insert.table (names.are i) }
 
 pub returns-in_err-hyps-clause-grows : goal.returns-in_err-hyps-clause-grows
 returns-in_err-hyps-clause-grows g c = Grows_refl (g.B.Bank.trees c.args.bank.now)
+
+pub returns-in_err-diffs-clause-grows : goal.returns-in_err-diffs-clause-grows
+returns-in_err-diffs-clause-grows g c = Grows_refl (g.B.Bank.trees c.args.bank.now)

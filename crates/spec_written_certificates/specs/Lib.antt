@@ -1,0 +1,2 @@
+-- Worked clauses with constraints.
+pub mod Examples
