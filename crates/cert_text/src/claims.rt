@@ -27,7 +27,7 @@ pub enum Claim {
     Proved(Cert),
     /// It is proved, with no certificate.
     Bare,
-    /// Whether it holds is unknown.
+    /// Whether it holds is unknown, or an attack is claimed: neither is looked at.
     Unknown,
 }
 

@@ -34,7 +34,7 @@ pub enum SharedClaim {
     Proved(SharedCert),
     /// It is proved, with no certificate.
     Bare,
-    /// Whether it holds is unknown.
+    /// Whether it holds is unknown, or an attack is claimed: neither is looked at.
     Unknown,
 }
 
@@ -134,14 +134,53 @@ fn unknown(cursor: &mut Cursor<'_>) -> Result<SharedClaim, CertError>
     Ok(SharedClaim::Unknown)
 }
 
-/// What is claimed: the second byte tells ` unknown ` from ` proved`.
+/// A step of a run: `s ` and some bytes, one at least, and the end of the line.
+fn step(cursor: &mut Cursor<'_>) -> Result<(), CertError>
+    ensures read { Passes reading.read_step cursor.old cursor.new result }
+    ensures same { cursor.new.bytes.now ≡ cursor.old.bytes.now }
+{
+    cursor.pass(b"s ")?;
+    text(cursor)
+}
+
+/// The steps of a run, which aren't looked at, and `end`.
+fn run(cursor: &mut Cursor<'_>) -> Result<(), CertError>
+    ensures read { Passes reading.read_run cursor.old cursor.new result }
+    ensures same { cursor.new.bytes.now ≡ cursor.old.bytes.now }
+{
+    for round in cursor.at..cursor.bytes.len() {
+        if cursor.front() != b's' {
+            return cursor.pass(b"end\n");
+        }
+        step(cursor)?;
+    }
+    if cursor.front() == b's' {
+        return Err(CertError::Count(cursor.at));
+    }
+    cursor.pass(b"end\n")
+}
+
+/// ` attack` and the end of the line, and a run, which shows no proof.
+fn attack(cursor: &mut Cursor<'_>) -> Result<SharedClaim, CertError>
+    ensures read { Reads shared_claim_of reading.read_attack cursor.old cursor.new result }
+    ensures same { cursor.new.bytes.now ≡ cursor.old.bytes.now }
+{
+    cursor.pass(b" attack\n")?;
+    run(cursor)?;
+    Ok(SharedClaim::Unknown)
+}
+
+/// What is claimed: the second byte tells ` unknown `, ` attack` and ` proved` apart.
 fn verdict(names: &Names<'_>, cursor: &mut Cursor<'_>) -> Result<SharedClaim, CertError>
     ensures read { Reads shared_claim_of (reading.verdict_by (read_in_both (protocol_in names.now)))
         cursor.old cursor.new result }
     ensures same { cursor.new.bytes.now ≡ cursor.old.bytes.now }
 {
-    if cursor.front_behind(1) == b'u' {
+    let second = cursor.front_behind(1);
+    if second == b'u' {
         unknown(cursor)
+    } else if second == b'a' {
+        attack(cursor)
     } else {
         proved(names, cursor)
     }

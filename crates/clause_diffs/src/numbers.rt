@@ -123,7 +123,7 @@ pub(crate) fn add_if(passed: bool, number: u32, numbers: &mut Vec<u32>) -> Resul
 }
 
 /// The numbers, each where it stands first.
-pub(crate) fn distinct_of(alloc: Global, numbers: Vec<u32>) -> Result<Vec<u32>, AllocError>
+pub fn distinct_of(alloc: Global, numbers: Vec<u32>) -> Result<Vec<u32>, AllocError>
     ensures { IfOk result (λ found. found.items ≡ distinct nat_eq numbers.items) }
 {
     let all = Numbering::new(alloc, numbers)?;

@@ -65,7 +65,7 @@ pub(crate) fn variables_of_diff<B: Bank>(
 }
 
 /// The numbers below another.
-fn numbers_below(alloc: Global, first: u32, numbers: &[u32]) -> Result<Vec<u32>, AllocError>
+pub fn numbers_below(alloc: Global, first: u32, numbers: &[u32]) -> Result<Vec<u32>, AllocError>
     ensures { IfOk result (λ kept. kept.items ≡ filter (λ x. nat_lt x first) numbers.now) }
 {
     let mut kept = Vec::with_capacity(alloc, 16)?;
@@ -98,7 +98,7 @@ fn add_from(first: u32, number: u32, numbers: &mut Vec<u32>) -> Result<(), Alloc
 }
 
 /// The numbers from another on, less that.
-fn numbers_from(alloc: Global, first: u32, numbers: &[u32]) -> Result<Vec<u32>, AllocError>
+pub fn numbers_from(alloc: Global, first: u32, numbers: &[u32]) -> Result<Vec<u32>, AllocError>
     ensures { IfOk result (λ kept. kept.items ≡
         map (λ x. x - first) (filter (λ x. not (nat_lt x first)) numbers.now)) }
 {

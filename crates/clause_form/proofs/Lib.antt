@@ -19,3 +19,4 @@ pub mod Marking
 pub mod Told
 pub mod Keeping
 pub mod Made
+pub mod Remaining

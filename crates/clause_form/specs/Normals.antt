@@ -3,8 +3,8 @@ use Rattle.std.specs.Prelude.{◌≡◌, ℕ, true, nat_eq, cond, length, Option
 use Rattle.std.specs.List.{AllByRecursion, list_any}
 use Rattle.spec_terms.specs.Term.{Term}
 use Rattle.spec_clauses.specs.Fact as horn
-use Rattle.spec_clauses.specs.Variables.{clause_variables, constrained_variables}
-use Rattle.spec_clauses.specs.Norm.{distinct, anchors, without_repeats, is_tautology, without_lonely, generalized, numbered_anew}
+use Rattle.spec_clauses.specs.Variables.{fact_variables, clause_variables, constrained_variables}
+use Rattle.spec_clauses.specs.Norm.{distinct, is_general, anchors, without_repeats, is_tautology, without_lonely, generalized, numbered_anew}
 use Rattle.term_tree.specs.declared.bank.Id.{Id}
 use Rattle.clause_diffs.specs.Diffs.{StartAt}
 use Rattle.clause_form.specs.declared.normal.Normal.{Normal}
@@ -41,3 +41,7 @@ AreOwn c = AllByRecursion (λ x. list_any (nat_eq x) (clause_variables c) ≡ tr
 -- the variables that the constraints bind come right after those of the facts
 abbrev pub BindAfter : List Term → IdClause → Type 0
 BindAfter all c = StartAt (length (distinct nat_eq (clause_variables (clause_at all c)))) c.diffs
+
+-- the variables of the facts that a norm keeps, where these are left
+abbrev pub kept_numbers : horn.Clause Term → List ℕ
+kept_numbers c = cond (is_general c) (fact_variables c.conclusion) (clause_variables c)

@@ -13,7 +13,7 @@ ghost use Rattle.term_tree.specs.Bank.{Grows};
 ghost use Rattle.clause_diffs.specs.Diffs.{AreDiffsIn};
 ghost use Rattle.clause_form.specs.Facts.{fact_of, clause_of};
 ghost use Rattle.clause_form.specs.Fit.{HasLowVariables};
-ghost use Rattle.clause_form.specs.Normals.{NamesNorm, IfClause, AreOwn, BindAfter, simplest, needed_norm};
+ghost use Rattle.clause_form.specs.Normals.{NamesNorm, IfClause, AreOwn, BindAfter, simplest, needed_norm, kept_numbers};
 ghost use Rattle.clause_form.specs.Seen.{fact_at, clause_at, IsFactIn, AreFactsIn, IsClauseIn, NameFacts, NamesClause};
 
 use crate::anchors::needed_of;
@@ -23,7 +23,7 @@ use crate::repeats::without_repeats;
 use crate::same::is_among;
 use crate::selectable::{are_solved, is_variable_known};
 use crate::standing::stands_in_hypotheses;
-use crate::variables::variables_elsewhere;
+use crate::variables::{variables_elsewhere, variables_of};
 use clause_diffs::{Counts, Diff, Diffs, is_void};
 use std::alloc::{AllocError, Global};
 use term_tree::{Bank, Node};
@@ -140,6 +140,26 @@ fn shared_hypotheses<B: Bank>(
     let occurring = variables_elsewhere(alloc, bank, concl, &hyps.items)?;
     let numbers = Counts::new(alloc, occurring)?;
     without_lonely(alloc, bank, &numbers, hyps)
+}
+
+/// The variables of the facts that the norm of a flat clause keeps, each as often as it occurs there; those of its conclusion where
+/// the norm says that the attacker has everything. By their first occurrence they have the norm's numbers.
+pub fn kept_variables<B: Bank>(
+    alloc: Global,
+    bank: &B,
+    clause: &Clause,
+) -> Result<Vec<u32>, AllocError>
+    requires { IsClauseIn (B.trees bank.now) clause.now }
+    ensures { IfOk result (λ numbers. numbers.items ≡
+        kept_numbers (simplest (clause_at (B.trees bank.now) clause.now))) }
+{
+    let copied = clause.hyps.copy(alloc)?;
+    let kept = without_repeats(alloc, bank, copied)?;
+    let few = shared_hypotheses(alloc, bank, &clause.concl, kept)?;
+    if is_general(bank, &clause.concl, &few.items) {
+        return variables_of(alloc, bank, &clause.concl, &[]);
+    }
+    variables_of(alloc, bank, &clause.concl, &few.items)
 }
 
 /// Whether the fact is `att` of a variable, of whatever phase.

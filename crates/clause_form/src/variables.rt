@@ -43,7 +43,7 @@ fn add_facts_variables<B: Bank>(
 }
 
 /// The variables of a clause, each as often as it occurs: the conclusion's first.
-pub(crate) fn variables_of<B: Bank>(
+pub fn variables_of<B: Bank>(
     alloc: Global,
     bank: &B,
     concl: &Fact,

@@ -65,7 +65,7 @@ together_at all solved rest =
     let diffs = map-append (diff_at all) solved.diffs rest.diffs in
     λ i. record { hypotheses = hypotheses i; diffs = diffs i; conclusion = fact_at all rest.conclusion }
 
-together_is : (all : List Term) (solved : IdClause) (unsolved : Clause Term) (apart : Apart) (a : IsApart all unsolved apart) → clause_at all (together solved apart.rest) ≡ joined most_symbols (clause_at all solved) unsolved a.at
+pub together_is : (all : List Term) (solved : IdClause) (unsolved : Clause Term) (apart : Apart) (a : IsApart all unsolved apart) → clause_at all (together solved apart.rest) ≡ joined most_symbols (clause_at all solved) unsolved a.at
 together_is all solved unsolved apart a = together_at all solved apart.rest ∙ ap (together (clause_at all solved)) a.rest.is
 
 -- the constraints of a clause of low variables and of one that is set apart

@@ -8,5 +8,6 @@ pub mod Moving
 pub mod LiftingLaws
 pub mod Shifting
 pub mod Answering
+pub mod MetPairs
 pub mod Removing
 pub mod Swapping

@@ -6,3 +6,4 @@ pub mod Lifting
 pub mod Apart
 pub mod Joining
 pub mod Answers
+pub mod Met

@@ -18,12 +18,14 @@ mod applying;
 mod clash;
 mod lifting;
 mod meeting;
+pub mod met;
 mod parts;
 mod resolving;
 mod spending;
 mod stop;
 
 pub use crate::apart::{Apart, set_apart};
+pub use crate::met::{Met, meet};
 pub use crate::resolving::{Resolved, resolve_apart, resolvents};
 pub use spec_derivations::resolution_keeps_instances;
 

@@ -131,7 +131,7 @@ fn both_diffs(alloc: Global, first: &Diffs, second: &Diffs) -> Result<Diffs, All
 }
 
 /// The hypotheses and the constraints of two clauses, and the second one's conclusion.
-fn joined(alloc: Global, solved: &Clause, rest: &Clause) -> Result<Clause, AllocError>
+pub(crate) fn joined(alloc: Global, solved: &Clause, rest: &Clause) -> Result<Clause, AllocError>
     ensures { IfOk result (λ made. made ≡ together solved.now rest.now) }
 {
     let mut hyps = solved.hyps.copy(alloc)?;

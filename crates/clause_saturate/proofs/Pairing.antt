@@ -279,7 +279,7 @@ offering_step all task old new pair clauses k c o is within kept listed made =
     let i = minor pair in
     let e : offered.Entry = record { key = key m i (suc k); clause = clause_at all c } in
     let number : suc k ≡ k + 1 = omega arith in
-    let origin : IsOrigin o.log (resolvent_origin pair k) (key m i (suc k)) = (ap (λ j. key m i j) number, o.solved) in
+    let origin : IsOrigin o.log (resolvent_origin pair k) (key m i (suc k)) = (ap (λ j. key m i j) number, o.solved, λ same. omega (arith, same, o.order)) in
     let offered_there = resolvent_offered task.given o.log m i (suc k) o.resolvents (clause_at all c) o.gives (named_number all clauses o.resolvents k c o.name.are is within) in
     let went = offer_step all task task.asked old new o.log e o.at offered_there kept listed
     (λ after n. asked_on task.given o.log after e task.asked (not_goal task.given m i (suc k) o.order) n o.at.asked) (made o.log (key m i (suc k)) o.at.tell origin) in
@@ -310,7 +310,7 @@ offering_due all task old new pair clauses k c due o is within made =
     let number : suc k ≡ k + 1 = omega arith in
     due_step all task task.asked old new o.log (record { key = key m i (suc k); clause = clause_at all c }) due o.at (resolvent_offered task.given o.log m i (suc k) o.resolvents (clause_at all c) o.gives (named_number all clauses o.resolvents k c o.name.are is within))
     (asked_early task.given o.log (key m i (suc k)) task.asked (not_goal task.given m i (suc k) o.order) o.at.asked)
-    (made o.log (key m i (suc k)) o.at.tell (ap (λ j. key m i j) number, o.solved))
+    (made o.log (key m i (suc k)) o.at.tell (ap (λ j. key m i j) number, o.solved, λ same. omega (arith, same, o.order)))
 
 -- all are offered
 pub offering_ends : (all : List Term) (task : Task) (walk : Walk) (pair : Pair) (clauses : List IdClause) (k : ℕ) → IsOffering all task walk pair clauses k → k ≡ length clauses → IsWalked all task walk (key (major pair) (minor pair + 1) 1)
@@ -337,7 +337,7 @@ pub offer_kept : (all : List Term) (task : Task) (old new : Walk) (pair : Pair) 
 offer_kept all task old new pair clauses k c due o made =
     let number : suc k ≡ k + 1 = omega arith in
     let at = key (major pair) (minor pair) (suc k) in
-    go due (record { key = at; clause = clause_at all c }) (made o.log at o.at.tell (ap (λ j. key (major pair) (minor pair) j) number, o.solved))
+    go due (record { key = at; clause = clause_at all c }) (made o.log at o.at.tell (ap (λ j. key (major pair) (minor pair) j) number, o.solved, λ same. omega (arith, same, o.order)))
   where
     go : (due : Option Entry) (e : offered.Entry) → IsOfferMade all o.log old.items.items new.items.items old.budget e due → AreSameOrMore old.items.items new.items.items
     go None e (inl covered) = inl covered.1

@@ -123,7 +123,7 @@ IsSolvedAt-push log e n h = (h.0, numbered_push log e n h.0 h.1, h.2)
 
 pub IsOrigin-push : (log : List offered.Entry) (e : offered.Entry) (o : Origin) (at : Key) → IsOrigin log o at → IsOrigin (log ++ e ∷ []) o at
 IsOrigin-push log e (Given k) at h = h
-IsOrigin-push log e (Resolvent k s u) at h = (h.0, IsSolvedAt-push log e s h.1)
+IsOrigin-push log e (Resolvent k s u) at h = (h.0, IsSolvedAt-push log e s h.1, h.2)
 
 -- the first that subsumes, with an entry more
 first_push : (all : List Term) (n number : ℕ) (es : List offered.Entry) (e : offered.Entry) (old new : Entry) (c : Clause Term) → number ≡ n + length es → clause_at all old.clause ≡ c → IsFirstSubsumer n es c old.by → IsMarked all e.clause number old new → IsFirstSubsumer n (es ++ e ∷ []) c new.by

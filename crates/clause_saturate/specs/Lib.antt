@@ -9,3 +9,4 @@ pub mod Walked
 pub mod Common
 pub mod Pairs
 pub mod Plain
+pub mod PlainLogs

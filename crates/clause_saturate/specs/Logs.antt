@@ -1,5 +1,5 @@
 -- What the entries of a log tell: clauses, the keys at which they were offered, and which later one subsumes them first.
-use Rattle.std.specs.Prelude.{◌≡◌, ◌⊎◌, ℕ, suc, min, max, Bool, true, false, Option, Some, None, List, [], ◌∷◌, map, filter}
+use Rattle.std.specs.Prelude.{◌≡◌, ◌≢◌, ◌⊎◌, ℕ, suc, min, max, Bool, true, false, Option, Some, None, List, [], ◌∷◌, map, filter}
 use Rattle.spec_terms.specs.Term.{Term}
 use Rattle.spec_calculus.specs.Points.{numbered}
 use Rattle.spec_clauses.specs.Fact.{Clause}
@@ -21,11 +21,11 @@ use Rattle.clause_saturate.specs.declared.log.Saturated.TheVariants.{Closed, Spe
 abbrev pub IsSolvedAt : List offered.Entry → ℕ → Type 0
 IsSolvedAt log number = (e : offered.Entry) × (numbered log number ≡ Some e) × (is_solved e.clause.hypotheses ≡ true)
 
--- What is offered at the key comes from there: given clause k, the goal at the key of its turn; resolvent k of a pair of
--- entries, of which the one that is called solved is.
+-- What is offered at the key comes from there: given clause k, the goal at the key of its turn; resolvent k of two entries,
+-- of which the one that is called solved is.
 abbrev pub IsOrigin : List offered.Entry → Origin → Key → Type 0
 IsOrigin log (Given k) at = (turn : ℕ) × (at ≡ key turn turn k)
-IsOrigin log (Resolvent k solved unsolved) at = (at ≡ key (max solved unsolved) (min solved unsolved) k) × IsSolvedAt log solved
+IsOrigin log (Resolvent k solved unsolved) at = (at ≡ key (max solved unsolved) (min solved unsolved) k) × IsSolvedAt log solved × (solved ≢ unsolved)
 
 -- of these entries, the first of which has that number, `by` is the first that subsumes the clause, if one does
 abbrev pub IsFirstSubsumer : ℕ → List offered.Entry → Clause Term → Option ℕ → Type 0

@@ -11,3 +11,6 @@ pub mod Linear
 pub mod Sounding
 pub mod EntryWays
 pub mod Counting
+pub mod Gathering
+pub mod Repeated
+pub mod AllSources

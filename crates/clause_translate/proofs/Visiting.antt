@@ -285,7 +285,7 @@ module _ (P : Protocol) (v : Visit) (table : ℕ) (patterns : List Pattern) (con
         (moved P (point_after (point + 1) next) v to w otherwise new midway after over at same k)) h
 
 -- a process does nothing, or something
-nil_or : (process : Process) → (process ≡ Nil) ⊎ (process ≡ Nil → ⊥)
+pub nil_or : (process : Process) → (process ≡ Nil) ⊎ (process ≡ Nil → ⊥)
 nil_or Nil = inl refl
 nil_or (Output channel message next) = inr (λ e. cc)
 nil_or (Input channel pattern next) = inr (λ e. cc)

@@ -1,3 +1,4 @@
 pub mod Jobs
 pub mod Whole
 pub mod Soundness
+pub mod Gathering

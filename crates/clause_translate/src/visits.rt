@@ -1,6 +1,7 @@
 //! The visits of a process in pre-order (Blanchet 2016, section 3.3.2).
 
-ghost use Rattle.std.specs.Prelude.{◌≡◌, ℕ, ◌+◌, ◌<◌, Option, List, [], map, IfOk, MatchOption};
+ghost use Rattle.std.specs.Prelude.{◌≡◌, ℕ, ◌+◌, ◌<◌, ◌≤◌, Option, List, [], map, IfOk, MatchOption};
+ghost use Rattle.spec_calculus.specs.Bounds.{most_choices};
 ghost use Rattle.spec_calculus.specs.Syntax as calculus;
 ghost use Rattle.pi_tree.specs.Expressions.{expression_of};
 ghost use Rattle.pi_tree.specs.Patterns.{pattern_of};
@@ -9,14 +10,17 @@ ghost use Rattle.term_tree.specs.Bank.{Grows};
 ghost use Rattle.spec_translation.specs.Visit as translation;
 ghost use Rattle.spec_choice_walks.specs.Instructions.{instructions};
 ghost use Rattle.term_values.specs.Instructions.{instruction_of};
+ghost use Rattle.clause_sources.specs.Seen.{choice_of};
 ghost use Rattle.process_visits.specs.Places.{protocol_at, IsAt, HasFewPoints};
 ghost use Rattle.process_visits.specs.Processes.{output_form, input_form, parallel_form, let_form, event_form};
 ghost use Rattle.process_visits.specs.Processes.{phase_form, insert_form, get_form};
 ghost use Rattle.process_visits.specs.Short.{IsFitProcess};
 ghost use Rattle.process_visits.specs.Visits.{visit_at, IsVisitIn, HasFewCopies};
-ghost use Rattle.process_visits.specs.Walks.{choices_of, IsChoosingIn};
+ghost use Rattle.process_visits.specs.Walks.{instructions_of, choices_of, IsChoosingIn};
+ghost use Rattle.clause_translate.specs.Gathering.{Tells, TellsBelow, TellsWay, TellsEach};
 ghost use Rattle.clause_translate.specs.Jobs.{Once, Uncounted, Each, Ends, AreSmallWays, IsKnownWay, IsSmallLet, EndsEach};
 
+use clause_sources::{Choice, Label};
 use pi_tree::{Expr, Process};
 use process_visits::choice::Choosing;
 use process_visits::choices::{choices_from, count_choices, look_at_choices};
@@ -26,6 +30,7 @@ use process_visits::forms::{Event, Get, Input, Insert, Let, Output, Parallel, Ph
 use process_visits::gets::entry_way;
 use process_visits::inputs::after_input;
 use process_visits::inserts::add_insert;
+use process_visits::labels::label_at;
 use process_visits::large::{is_large_let, some_large_compared_in};
 use process_visits::listing::Listing;
 use process_visits::names::after_new;
@@ -38,6 +43,20 @@ use process_visits::ways::Way;
 use std::alloc::{AllocError, Global};
 use term_tree::Bank;
 use term_values::{Instruction, list_instructions};
+
+/// A visit, and how a thread went on to come there.
+#[derive(Drop)]
+struct Branch<'a> {
+    visit: &'a Visit,
+    choice: Choice,
+}
+
+/// A way, and the label of the choice that leads there.
+#[derive(Drop)]
+struct Taken<'a> {
+    label: Label,
+    way: &'a Way,
+}
 
 /// Visits a process that begins at the place, and tells the point of the first visit that is too large, if one is.
 /// Where no clause was added the bank is as before; on `Err` it may have grown.
@@ -59,6 +78,9 @@ pub fn visit_process<B: Bank>(
         (B.trees bank.new) listing.old listing.new large) }
     ensures back { IfOk result (λ large. listing.new.clauses ≡ listing.old.clauses
         → B.trees bank.new ≡ B.trees bank.old) }
+    ensures tells { IfOk result (λ large. Tells (protocol_at place.now)
+        (process_of process.now) place.now.point (visit_at (B.trees bank.old) visit.now)
+        listing.old listing.new large) }
 {
     if listing.left == 0 {
         return Ok(Some(place.point));
@@ -87,6 +109,9 @@ fn visit_counted<B: Bank>(
         (visit_at (B.trees bank.old) visit.now)) (B.trees bank.new) listing.old listing.new large) }
     ensures back { IfOk result (λ large. listing.new.clauses ≡ listing.old.clauses
         → B.trees bank.new ≡ B.trees bank.old) }
+    ensures tells { IfOk result (λ large. Tells (protocol_at place.now)
+        (process_of process.now) place.now.point (visit_at (B.trees bank.old) visit.now)
+        listing.old listing.new large) }
 {
     let count = listing.count();
     let mark = bank.mark();
@@ -116,6 +141,9 @@ fn visit_form<B: Bank>(
         (Uncounted (process_of process.now) place.now.point
         (visit_at (B.trees bank.old) visit.now))
         (B.trees bank.new) listing.old listing.new large) }
+    ensures tells { IfOk result (λ large. Tells (protocol_at place.now)
+        (process_of process.now) place.now.point (visit_at (B.trees bank.old) visit.now)
+        listing.old listing.new large) }
 {
     match process {
         Process::Nil => Ok(None),
@@ -199,6 +227,9 @@ fn visit_output<B: Bank>(
     ensures ends { IfOk result (λ large. Ends (protocol_at place.now)
         (Uncounted (output_form output.now) place.now.point (visit_at (B.trees bank.old) visit.now))
         (B.trees bank.new) listing.old listing.new large) }
+    ensures tells { IfOk result (λ large. Tells (protocol_at place.now)
+        (output_form output.now) place.now.point (visit_at (B.trees bank.old) visit.now)
+        listing.old listing.new large) }
 {
     if !add_output(place, bank, listing, visit, output)? {
         return Ok(Some(place.point));
@@ -224,6 +255,9 @@ fn visit_input<B: Bank>(
     ensures ends { IfOk result (λ large. Ends (protocol_at place.now)
         (Uncounted (input_form input.now) place.now.point (visit_at (B.trees bank.old) visit.now))
         (B.trees bank.new) listing.old listing.new large) }
+    ensures tells { IfOk result (λ large. Tells (protocol_at place.now)
+        (input_form input.now) place.now.point (visit_at (B.trees bank.old) visit.now)
+        listing.old listing.new large) }
 {
     let below = place.below();
     match after_input(place, bank, visit, input.channel, input.pattern)? {
@@ -249,6 +283,9 @@ fn visit_parallel<B: Bank>(
     ensures ends { IfOk result (λ large. Ends (protocol_at place.now)
         (Uncounted (parallel_form both.now) place.now.point (visit_at (B.trees bank.old) visit.now))
         (B.trees bank.new) listing.old listing.new large) }
+    ensures tells { IfOk result (λ large. Tells (protocol_at place.now)
+        (parallel_form both.now) place.now.point (visit_at (B.trees bank.old) visit.now)
+        listing.old listing.new large) }
 {
     let below = place.below();
     let after = place.after(both.left);
@@ -275,6 +312,9 @@ fn visit_copies<B: Bank>(
     ensures ends { IfOk result (λ large. Ends (protocol_at place.now)
         (Uncounted (calculus.Replication (process_of copied.now)) place.now.point
         (visit_at (B.trees bank.old) visit.now)) (B.trees bank.new) listing.old listing.new large) }
+    ensures tells { IfOk result (λ large. Tells (protocol_at place.now)
+        (calculus.Replication (process_of copied.now)) place.now.point (visit_at (B.trees bank.old) visit.now)
+        listing.old listing.new large) }
 {
     let below = place.below();
     let made = after_copy(place.alloc, bank, visit)?;
@@ -298,6 +338,9 @@ fn visit_new<B: Bank>(
     ensures ends { IfOk result (λ large. Ends (protocol_at place.now)
         (Uncounted (calculus.New [] (process_of next.now)) place.now.point
         (visit_at (B.trees bank.old) visit.now)) (B.trees bank.new) listing.old listing.new large) }
+    ensures tells { IfOk result (λ large. Tells (protocol_at place.now)
+        (calculus.New [] (process_of next.now)) place.now.point (visit_at (B.trees bank.old) visit.now)
+        listing.old listing.new large) }
 {
     let below = place.below();
     match after_new(place, bank, visit)? {
@@ -333,6 +376,9 @@ fn visit_let<'a, B: Bank>(
     ensures ends { IfOk result (λ large. Ends (protocol_at place.now)
         (Uncounted (let_form choice.now) place.now.point (visit_at (B.trees bank.old) visit.now))
         (B.trees bank.new) listing.old listing.new large) }
+    ensures tells { IfOk result (λ large. Tells (protocol_at place.now)
+        (let_form choice.now) place.now.point (visit_at (B.trees bank.old) visit.now)
+        listing.old listing.new large) }
 {
     if is_large_let(place, bank, &visit.scope, choice.pattern, choice.expression) {
         return Ok(Some(place.point));
@@ -355,7 +401,11 @@ fn visit_let<'a, B: Bank>(
         Some(point) => Ok(Some(point)),
         None => {
             let made = else_visit(&choosing, bank, choice.otherwise)?;
-            visit_process(choice.otherwise, &after, bank, listing, &made)
+            let branch = Branch {
+                visit: &made,
+                choice: Choice::Else,
+            };
+            visit_branch(choice.otherwise, &after, bank, listing, branch)
         }
     }
 }
@@ -377,6 +427,9 @@ fn visit_event<B: Bank>(
     ensures ends { IfOk result (λ large. Ends (protocol_at place.now)
         (Uncounted (event_form event.now) place.now.point (visit_at (B.trees bank.old) visit.now))
         (B.trees bank.new) listing.old listing.new large) }
+    ensures tells { IfOk result (λ large. Tells (protocol_at place.now)
+        (event_form event.now) place.now.point (visit_at (B.trees bank.old) visit.now)
+        listing.old listing.new large) }
 {
     let below = place.below();
     match add_event(place, bank, listing, visit, event.atom)? {
@@ -402,6 +455,9 @@ fn visit_phase<B: Bank>(
     ensures ends { IfOk result (λ large. Ends (protocol_at place.now)
         (Uncounted (phase_form phase.now) place.now.point (visit_at (B.trees bank.old) visit.now))
         (B.trees bank.new) listing.old listing.new large) }
+    ensures tells { IfOk result (λ large. Tells (protocol_at place.now)
+        (phase_form phase.now) place.now.point (visit_at (B.trees bank.old) visit.now)
+        listing.old listing.new large) }
 {
     let below = place.below();
     let made = after_phase(place.alloc, visit, phase.number)?;
@@ -425,6 +481,9 @@ fn visit_insert<B: Bank>(
     ensures ends { IfOk result (λ large. Ends (protocol_at place.now)
         (Uncounted (insert_form insert.now) place.now.point (visit_at (B.trees bank.old) visit.now))
         (B.trees bank.new) listing.old listing.new large) }
+    ensures tells { IfOk result (λ large. Tells (protocol_at place.now)
+        (insert_form insert.now) place.now.point (visit_at (B.trees bank.old) visit.now)
+        listing.old listing.new large) }
 {
     if !add_insert(place, bank, listing, visit, insert)? {
         return Ok(Some(place.point));
@@ -450,6 +509,9 @@ fn visit_get<B: Bank>(
     ensures ends { IfOk result (λ large. Ends (protocol_at place.now)
         (Uncounted (get_form get.now) place.now.point (visit_at (B.trees bank.old) visit.now))
         (B.trees bank.new) listing.old listing.new large) }
+    ensures tells { IfOk result (λ large. Tells (protocol_at place.now)
+        (get_form get.now) place.now.point (visit_at (B.trees bank.old) visit.now)
+        listing.old listing.new large) }
 {
     if some_large_compared_in(place, bank, &visit.scope, get.patterns) {
         return Ok(Some(place.point));
@@ -460,10 +522,52 @@ fn visit_get<B: Bank>(
     if way.is_large() {
         return Ok(Some(place.point));
     }
-    match visit_way(get.next, &below, bank, listing, &way)? {
+    let empty = Label {
+        items: Vec::new(place.alloc),
+    };
+    let taken = Taken {
+        label: empty,
+        way: &way,
+    };
+    match visit_way(get.next, &below, bank, listing, taken)? {
         Some(point) => Ok(Some(point)),
-        None => visit_process(get.otherwise, &after, bank, listing, visit),
+        None => {
+            let branch = Branch {
+                visit,
+                choice: Choice::Else,
+            };
+            visit_branch(get.otherwise, &after, bank, listing, branch)
+        }
     }
+}
+
+/// Visits a branch of a `let` or a `get`. On `Err` the bank may have grown.
+#[cycle(visits)]
+fn visit_branch<B: Bank>(
+    process: &Process,
+    place: &Place<'_>,
+    bank: &mut B,
+    listing: &mut Listing,
+    branch: Branch<'_>,
+) -> Result<Option<u32>, AllocError>
+    requires visit { IsVisitIn (B.trees bank.old) branch.visit.now }
+    requires fit { IsFitProcess (protocol_at place.now) (process_of process.now) }
+    requires points { HasFewPoints place.now.point (process_of process.now) }
+    requires copies { HasFewCopies place.now.point branch.visit.now }
+    ensures grows { Grows (B.trees bank.old) (B.trees bank.new) }
+    ensures ends { IfOk result (λ large. Ends (protocol_at place.now)
+        (Once (process_of process.now) place.now.point
+        (visit_at (B.trees bank.old) branch.entry.visit.now))
+        (B.trees bank.new) listing.old listing.new large) }
+    ensures tells { IfOk result (λ large. TellsBelow (protocol_at place.now)
+        (process_of process.now) place.now.point (visit_at (B.trees bank.old) branch.entry.visit.now)
+        (choice_of branch.entry.choice) listing.old listing.new large) }
+{
+    let Branch { visit, choice } = branch;
+    listing.choose(choice)?;
+    let large = visit_process(process, place, bank, listing, visit)?;
+    listing.leave();
+    Ok(large)
 }
 
 /// Counts so many visits of a process that does nothing, and tells its point where fewer are left.
@@ -472,6 +576,8 @@ fn count_visits(listing: &mut Listing, going: usize, point: u32) -> Option<u32>
         (λ at. (at ≡ point) × (listing.old.left < going)) }
     ensures clauses { listing.new.clauses ≡ listing.old.clauses }
     ensures keeps { listing.new.keeps ≡ listing.old.keeps }
+    ensures sources { listing.new.sources ≡ listing.old.sources }
+    ensures choices { listing.new.choices ≡ listing.old.choices }
 {
     if (listing.left as usize) < going {
         listing.left = 0;
@@ -494,6 +600,7 @@ fn visit_chosen<B: Bank>(
     requires known { IsChoosingIn (B.trees bank.old) choosing.now }
     requires small { (expression : calculus.Expression)
         × IsSmallLet (B.trees bank.old) choosing.now expression going }
+    requires few { choosing.now.count ≤ most_choices }
     requires fit { IsFitProcess (protocol_at choosing.now.place.now) (process_of process.now) }
     requires points { HasFewPoints (choosing.now.place.now.point + 1) (process_of process.now) }
     requires copies { HasFewCopies choosing.now.place.now.point choosing.now.visit.now }
@@ -502,6 +609,12 @@ fn visit_chosen<B: Bank>(
         (visit_at (B.trees bank.old) choosing.now.visit.now) (pattern_of choosing.now.pattern.now)
         (choices_of choosing.now) (process_of process.now) (choosing.now.place.now.point + 1)
         (B.trees bank.new) listing.old listing.new) }
+    ensures tells { IfOk result (λ large. (expression : calculus.Expression) →
+        instructions_of choosing.now ≡ instructions expression →
+        TellsEach (protocol_at choosing.now.place.now)
+        (visit_at (B.trees bank.old) choosing.now.visit.now) (pattern_of choosing.now.pattern.now)
+        expression (process_of process.now) (choosing.now.place.now.point + 1)
+        listing.old listing.new large) }
 {
     let below = choosing.place.below();
     match process {
@@ -522,6 +635,7 @@ fn visit_choices<B: Bank>(
     requires known { IsChoosingIn (B.trees bank.old) choosing.now }
     requires small { (expression : calculus.Expression) × (going : ℕ)
         × IsSmallLet (B.trees bank.old) choosing.now expression going }
+    requires few { choosing.now.count ≤ most_choices }
     requires at { IsAt (protocol_at choosing.now.place.now) (choosing.now.place.now.point + 1)
         place.now }
     requires fit { IsFitProcess (protocol_at place.now) (process_of process.now) }
@@ -532,11 +646,22 @@ fn visit_choices<B: Bank>(
         (visit_at (B.trees bank.old) choosing.now.visit.now) (pattern_of choosing.now.pattern.now)
         (choices_of choosing.now) (process_of process.now) (choosing.now.place.now.point + 1)
         (B.trees bank.new) listing.old listing.new) }
+    ensures tells { IfOk result (λ large. (expression : calculus.Expression) →
+        instructions_of choosing.now ≡ instructions expression →
+        TellsEach (protocol_at choosing.now.place.now)
+        (visit_at (B.trees bank.old) choosing.now.visit.now) (pattern_of choosing.now.pattern.now)
+        expression (process_of process.now) (choosing.now.place.now.point + 1)
+        listing.old listing.new large) }
 {
     let mut number = 0usize;
     'each: while number < choosing.count {
         let passed = choices_from(choosing, bank, number)?;
-        match visit_way(process, place, bank, listing, &passed.way)? {
+        let label = label_at(choosing, number)?;
+        let taken = Taken {
+            label,
+            way: &passed.way,
+        };
+        match visit_way(process, place, bank, listing, taken)? {
             Some(point) => return Ok(Some(point)),
             None => {}
         }
@@ -552,19 +677,29 @@ fn visit_way<B: Bank>(
     place: &Place<'_>,
     bank: &mut B,
     listing: &mut Listing,
-    way: &Way,
+    taken: Taken<'_>,
 ) -> Result<Option<u32>, AllocError>
-    requires known { IsKnownWay (B.trees bank.old) place.now.point way.now }
+    requires known { IsKnownWay (B.trees bank.old) place.now.point taken.way.now }
     requires fit { IsFitProcess (protocol_at place.now) (process_of process.now) }
     requires points { HasFewPoints place.now.point (process_of process.now) }
     ensures grows { Grows (B.trees bank.old) (B.trees bank.new) }
     ensures ends { IfOk result (λ large. (outs : List (Option translation.Visit)) →
-        AreSmallWays (B.trees bank.old) way.now outs → Ends (protocol_at place.now)
+        AreSmallWays (B.trees bank.old) taken.entry.way.now outs → Ends (protocol_at place.now)
         (Each (process_of process.now) place.now.point outs)
         (B.trees bank.new) listing.old listing.new large) }
+    ensures tells { IfOk result (λ large. TellsWay (protocol_at place.now) (process_of process.now)
+        place.now.point (B.trees bank.old) taken.entry.label taken.entry.way.now listing.old listing.new
+        large) }
 {
+    let Taken { label, way } = taken;
     match way {
-        Way::Visit(made) => visit_process(process, place, bank, listing, made),
+        Way::Visit(made) => {
+            let branch = Branch {
+                visit: made,
+                choice: Choice::Taken(label),
+            };
+            visit_branch(process, place, bank, listing, branch)
+        }
         Way::Nowhere | Way::Large => Ok(None),
     }
 }

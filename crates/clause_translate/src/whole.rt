@@ -1,6 +1,6 @@
 //! The whole translation: the attacker's clauses, those of the visits, and the goal (Blanchet 2016, section 3.3).
 
-ghost use Rattle.std.specs.Prelude.{◌≡◌, ◌++◌, map, IfOk, MatchOption, OnErr};
+ghost use Rattle.std.specs.Prelude.{◌≡◌, [], ◌++◌, map, IfOk, MatchOption, OnErr};
 ghost use Rattle.spec_well_formed.specs.Limits.{IsWithinLimits};
 ghost use Rattle.spec_well_formed.specs.Rules.{HasProperRules};
 ghost use Rattle.spec_well_formed.specs.Queries.{HasProperQueries};
@@ -16,6 +16,7 @@ ghost use Rattle.clause_form.specs.Seen.{clause_at, AreClausesIn, NameClauses};
 ghost use Rattle.query_derive.specs.GoalRows.{OfQuery};
 ghost use Rattle.process_visits.specs.Places.{HasFewPoints};
 ghost use Rattle.process_visits.specs.Short.{IsFitProcess, HasFitRules};
+ghost use Rattle.clause_translate.specs.Gathering.{Tells};
 ghost use Rattle.clause_translate.specs.Jobs.{Once, Ends};
 ghost use Rattle.clause_translate.specs.Whole.{IsLargeAt, IsVisited, Translates, TranslatesTo, TranslatesAll, IsCommonTo, IsKept};
 ghost use Rattle.clause_translate.specs.Soundness.{IsSound};
@@ -24,6 +25,7 @@ use crate::runs::translations_abstract_runs;
 use crate::visits::visit_process;
 use attacker_clauses::attacker_list;
 use clause_form::Clauses;
+use clause_sources::Choices;
 use pi_tree::{MOST_VISITS, Protocol};
 use process_visits::listing::Listing;
 use process_visits::place::Place;
@@ -40,9 +42,18 @@ pub enum Translated {
     Large(u32),
 }
 
+/// No choices.
+pub(crate) fn no_choices(alloc: Global) -> Choices
+    ensures { result ≡ [] }
+{
+    Choices {
+        items: Vec::new(alloc),
+    }
+}
+
 /// Visits the main process, and tells the point of the first visit that is too large, if one is. Where no clause was
 /// added the bank is as before; on `Err` it may have grown.
-fn visit_main<B: Bank>(
+pub(crate) fn visit_main<B: Bank>(
     alloc: Global,
     bank: &mut B,
     protocol: &Protocol,
@@ -55,6 +66,8 @@ fn visit_main<B: Bank>(
     ensures ends { IfOk result (λ large. Ends (protocol_of protocol.now)
         (Once (protocol_of protocol.now).main 1 first_visit) (B.trees bank.new) listing.old
         listing.new large) }
+    ensures tells { IfOk result (λ large. Tells (protocol_of protocol.now)
+        (protocol_of protocol.now).main 1 first_visit listing.old listing.new large) }
     ensures back { IfOk result (λ large. listing.new.clauses ≡ listing.old.clauses
         → B.trees bank.new ≡ B.trees bank.old) }
 {
@@ -87,6 +100,8 @@ fn first_large<B: Bank>(
         },
         left: MOST_VISITS,
         keeps: false,
+        choices: no_choices(alloc),
+        sources: None,
     };
     visit_main(alloc, bank, protocol, &mut counted)
 }
@@ -116,6 +131,8 @@ fn visited<B: Bank>(
         clauses,
         left: MOST_VISITS,
         keeps: true,
+        choices: no_choices(alloc),
+        sources: None,
     };
     match visit_main(alloc, bank, protocol, &mut listing)? {
         Some(point) => Ok(Translated::Large(point)),

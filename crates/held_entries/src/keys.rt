@@ -24,7 +24,7 @@ fn mixed(key: u64, number: u64) -> u64
 
 /// The key of a value: equal values have equal keys.
 #[cycle(value_key)]
-fn value_key(value: &Value) -> u64
+pub fn value_key(value: &Value) -> u64
     ensures key { result ≡ value_key (value_of value.now) }
     ensures small { result < 65521 }
 {

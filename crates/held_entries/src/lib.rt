@@ -3,7 +3,7 @@
 #![tactic(auto)]
 
 pub mod entries;
-mod keys;
+pub mod keys;
 pub mod wanted;
 
 pub use crate::entries::{Entries, Held};

@@ -23,7 +23,7 @@ use Rattle.process_visits.specs.Forms.{Adds, ShowsClause}
 use Rattle.process_visits.specs.Visits.{ShowDiffs}
 
 -- numbering once is numbering twice
-numbered_twice : (ds es : List Diff) → map numbered_diff ds ≡ es → map numbered_diff ds ≡ map numbered_diff es
+pub numbered_twice : (ds es : List Diff) → map numbered_diff ds ≡ es → map numbered_diff ds ≡ map numbered_diff es
 numbered_twice ds es e = sym (again ds) ∙ ap (map numbered_diff) e where
   again : (fs : List Diff) → map numbered_diff (map numbered_diff fs) ≡ map numbered_diff fs
   again [] = refl

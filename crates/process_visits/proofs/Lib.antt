@@ -30,3 +30,5 @@ pub mod Fitting
 pub mod Excluded
 pub mod Passing
 pub mod Courses
+pub mod Telling
+pub mod Labelling

@@ -18,3 +18,5 @@ pub mod RuledRows
 pub mod Ways
 pub mod Walks
 pub mod Entries
+pub mod Telling
+pub mod Labels

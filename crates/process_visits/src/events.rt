@@ -1,14 +1,17 @@
 //! Events: the clause that it may have run, and the hypothesis that it must have.
 
-ghost use Rattle.std.specs.Prelude.{◌≡◌, map, IfOk};
+ghost use Rattle.std.specs.Prelude.{◌≡◌, map, IfOk, IfSome};
 ghost use Rattle.std.specs.List.{AllByRecursion};
 ghost use Rattle.pi_tree.specs.Events.{event_of};
 ghost use Rattle.spec_clauses.specs.Fact as horn;
+ghost use Rattle.spec_clauses.specs.Fact.{Ev};
+ghost use Rattle.spec_translation.specs.Visit.{event_terms};
 ghost use Rattle.spec_clauses.specs.Variables.{AreBelow};
 ghost use Rattle.term_tree.specs.Bank.{tree_at, AreKnown, Grows};
 ghost use Rattle.clause_terms.specs.Conditions.{HasShortTuples};
 ghost use Rattle.process_visits.specs.Places.{protocol_at};
 ghost use Rattle.process_visits.specs.Forms.{below_event, IsSmallVisit, EventAdds};
+ghost use Rattle.process_visits.specs.Telling.{TellsVisit};
 ghost use Rattle.process_visits.specs.Visits.{visit_at, IsVisitIn};
 
 use crate::large::{is_large_visit, some_large_term};
@@ -81,13 +84,18 @@ pub fn add_event<B: Bank>(
     ensures adds { IfOk result (λ found. EventAdds (protocol_at place.now)
         (visit_at (B.trees bank.old) visit.now) (event_of atom.now) (B.trees bank.new) listing.old
         listing.new found) }
+    ensures tells { let P = protocol_at place.now in
+        let v = visit_at (B.trees bank.old) visit.now in
+        IfOk result (λ found. IfSome found (λ made. TellsVisit place.now.point v
+        (Ev (event_of atom.now).event (event_terms P v (event_of atom.now)))
+        listing.old listing.new)) }
 {
     if some_large_term(place, bank, &visit.scope, &atom.args) {
         return Ok(None);
     }
     let arguments = terms_in(place.alloc, bank, place.protocol, &visit.scope, &atom.args)?;
     let raw = event_clause(place.alloc, visit, atom.event, &arguments)?;
-    let added = listing.add(place.alloc, bank, raw)?;
+    let added = listing.add(place, bank, visit, raw)?;
     if added {
         return event_below(place.alloc, bank, visit, atom.event, arguments);
     }

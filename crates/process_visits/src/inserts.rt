@@ -2,11 +2,14 @@
 
 ghost use Rattle.std.specs.Prelude.{◌≡◌, true, false, IfOk, MatchBool};
 ghost use Rattle.std.specs.List.{AllByRecursion};
+ghost use Rattle.spec_clauses.specs.Fact.{Tab};
 ghost use Rattle.spec_clauses.specs.Norm.{norms};
+ghost use Rattle.spec_translation.specs.Visit.{written_terms};
 ghost use Rattle.term_tree.specs.Bank.{Grows};
 ghost use Rattle.clause_terms.specs.Conditions.{HasShortTuples};
 ghost use Rattle.process_visits.specs.Forms.{Adds, insert_raw, is_large_insert, ShowsClause};
 ghost use Rattle.process_visits.specs.Places.{protocol_at};
+ghost use Rattle.process_visits.specs.Telling.{TellsVisit};
 ghost use Rattle.process_visits.specs.Visits.{visit_at, IsVisitIn};
 
 use crate::forms::Insert;
@@ -69,10 +72,15 @@ pub fn add_insert<B: Bank>(
         → Adds (B.trees bank.new) listing.old listing.new
         (norms (insert_raw (protocol_at place.now) (visit_at (B.trees bank.old) visit.now)
         insert.now.table insert.now.arguments.now))) }
+    ensures tells { let P = protocol_at place.now in
+        let v = visit_at (B.trees bank.old) visit.now in
+        IfOk result (λ added. added ≡ true → TellsVisit place.now.point v
+        (Tab insert.now.table (written_terms P v insert.now.arguments.now))
+        listing.old listing.new) }
 {
     if some_large_term(place, bank, &visit.scope, insert.arguments) {
         return Ok(false);
     }
     let raw = insert_clause(place, bank, visit, insert)?;
-    listing.add(place.alloc, bank, raw)
+    listing.add(place, bank, visit, raw)
 }

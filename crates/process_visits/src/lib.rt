@@ -13,6 +13,7 @@ pub mod forms;
 pub mod gets;
 pub mod inputs;
 pub mod inserts;
+pub mod labels;
 pub mod large;
 pub mod listing;
 pub mod names;

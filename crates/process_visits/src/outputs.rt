@@ -12,6 +12,7 @@ ghost use Rattle.clause_terms.specs.Conditions.{HasShortTuples};
 ghost use Rattle.clause_terms.specs.Scopes.{scope_at, IsScopeIn};
 ghost use Rattle.process_visits.specs.Places.{protocol_at};
 ghost use Rattle.process_visits.specs.Forms.{Adds, output_raw, is_large_output, ShowsClause};
+ghost use Rattle.process_visits.specs.Telling.{TellsVisit};
 ghost use Rattle.process_visits.specs.Visits.{visit_at, IsVisitIn};
 
 use crate::channels::sent;
@@ -92,6 +93,12 @@ pub fn add_output<B: Bank>(
         → Adds (B.trees bank.new) listing.old listing.new
         (norms (output_raw (protocol_at place.now) (visit_at (B.trees bank.old) visit.now)
         (term_of output.now.channel.now) (term_of output.now.message.now)))) }
+    ensures tells { let P = protocol_at place.now in
+        let v = visit_at (B.trees bank.old) visit.now in
+        IfOk result (λ added. added ≡ true → TellsVisit place.now.point v
+        (sent P v.phase (translation.term_in P v.scope (term_of output.now.channel.now))
+        (translation.term_in P v.scope (term_of output.now.message.now)))
+        listing.old listing.new) }
 {
     if is_large_term(place, bank, &visit.scope, output.channel) {
         return Ok(false);
@@ -100,5 +107,5 @@ pub fn add_output<B: Bank>(
         return Ok(false);
     }
     let raw = output_clause(place, bank, visit, output.channel, output.message)?;
-    listing.add(place.alloc, bank, raw)
+    listing.add(place, bank, visit, raw)
 }

@@ -132,6 +132,21 @@ fn norms_into<B: Bank>(
     }
 }
 
+/// The raw goal clause of the query of that number, over owned trees: what `goal_clause` gives the norm of.
+pub fn raw_goal_clause(
+    alloc: Global,
+    protocol: &Protocol,
+    query: u32,
+) -> Result<PlainClause, AllocError>
+    requires limits { IsWithinLimits (protocol_of protocol.now) }
+    requires queries { HasProperQueries (protocol_of protocol.now) }
+    requires there { IsThere (protocol_of protocol.now) OfQueries query }
+    ensures { IfOk result (λ raw. OfQuery (protocol_of protocol.now) query (λ q.
+        raw ≡ goal_raw (protocol_of protocol.now) q)) }
+{
+    raw_goal(alloc, protocol, protocol.query(query))
+}
+
 /// The goal clause of a query, as it stands last in the translation: one clause, always, with variables of low numbers.
 ///
 /// `Err` is want of memory; the bank is then as before.

@@ -17,7 +17,7 @@ pub mod rows;
 mod satisfying;
 mod wanted;
 
-pub use crate::goal::goal_clause;
+pub use crate::goal::{goal_clause, raw_goal_clause};
 pub use crate::rows::{Positions, QueryRow};
 pub use crate::satisfying::{query_row_holds, satisfies};
 

@@ -16,7 +16,10 @@ use Rattle.clause_translate.specs.Whole.{TranslatesTo, EndsAt}
 use Rattle.cert_writer.specs.declared.certified.Certified.{Certified}
 use Rattle.cert_writer.specs.declared.certified.Certified.TheVariants as certified
 use Rattle.cert_writer.specs.Certifying.{IsVerdictOf}
+use Rattle.query_verify.specs.declared.answers.Verdict as told
 use Rattle.query_verify.specs.declared.answers.Verdict.TheVariants as made
+use Rattle.query_verify.specs.declared.question.Question.{Question}
+use Rattle.query_verify.specs.Asked.{protocol_at, Answers, TellsUnmet}
 use Rattle.query_verify.specs.Told.{IsAnswer}
 use Rattle.query_verify.proofs.Telling.{plain_tells, due_tells}
 
@@ -65,10 +68,12 @@ proved_answer P number budget all given entries found cert verdict is closed = �
   is = subst (λ x. IsVerdictOf P q budget all entries x) is (verdict q there budget closed);
 }
 
--- or an entry that is unmet, which is read out when the bank is the same again
-pub unmet_answer : (P : Protocol) (number budget : ℕ) (all now : List Term) (given : List IdClause) (entries : List Entry) (found : Certified) (unmet : ℕ) (plain : List PlainEntry) → OfQuery P number (λ q. (b : ℕ) → IsClosedLog all (map (clause_at all) given) b entries → IsVerdictOf P q b all entries found)
-    → found ≡ certified.Unsatisfied unmet → IsClosedLog all (map (clause_at all) given) budget entries → now ≡ all → plain ≡ map (plain_entry now) entries → OfQuery P number (λ q. IsAnswer P q budget (made.Unmet plain unmet))
-unmet_answer P number budget all now given entries found unmet plain verdict is closed same plain_is = λ q there.
-    let told = subst (λ x. IsVerdictOf P q budget all entries x) is (verdict q there budget closed) in
+-- or an entry that is unmet, which is read out when the bank is the same again, and told as such or by its attack
+pub unmet_answer : (question : Question) (all now : List Term) (given : List IdClause) (entries : List Entry) (found : Certified) (unmet : ℕ) (plain : List PlainEntry) (answer : told.Verdict)
+    → OfQuery (protocol_at question) question.query (λ q. (b : ℕ) → IsClosedLog all (map (clause_at all) given) b entries → IsVerdictOf (protocol_at question) q b all entries found)
+    → found ≡ certified.Unsatisfied unmet → IsClosedLog all (map (clause_at all) given) question.budget entries → now ≡ all → plain ≡ map (plain_entry now) entries → TellsUnmet question plain unmet answer → Answers question answer
+unmet_answer question all now given entries found unmet plain answer verdict is closed same plain_is tells = λ q there.
+    let P = protocol_at question in
+    let by = subst (λ x. IsVerdictOf P q question.budget all entries x) is (verdict q there question.budget closed) in
     let read : plain ≡ map (plain_entry all) entries = plain_is ∙ ap (λ a. map (plain_entry a) entries) same in
-    record { verdict = Unmet told.0 unmet; tells = (plain_tells all entries told.0 plain told.1 read, refl); is = told.2 }
+    record { verdict = Unmet by.0 unmet; tells = tells by.0 (plain_tells all entries by.0 plain by.1 read) q there; is = by.2 }

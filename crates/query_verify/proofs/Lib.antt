@@ -4,3 +4,4 @@ pub mod Answering
 pub mod Each
 pub mod Settling
 pub mod Commons
+pub mod Normed

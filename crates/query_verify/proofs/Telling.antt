@@ -6,7 +6,7 @@ use Rattle.clause_saturate.specs.declared.log.Entry.{Entry}
 use Rattle.clause_saturate.specs.declared.log.PlainEntry.{PlainEntry}
 use Rattle.clause_saturate.specs.Logs.{IsOrigin, TellsEntry, TellEntries, TellLog}
 use Rattle.clause_saturate.specs.Plain.{plain_entry}
-use Rattle.query_verify.specs.Entries.{TellPlainFrom, TellPlainLog, TellsDue}
+use Rattle.clause_saturate.specs.PlainLogs.{TellPlainFrom, TellPlainLog, TellsDue}
 
 plain_from : (all : List Term) (log : List offered.Entry) (n : ℕ) (entries : List Entry) (es : List offered.Entry) → TellEntries all log n entries es → TellPlainFrom log n (map (plain_entry all) entries) es
 plain_from all log n [] [] t = tt

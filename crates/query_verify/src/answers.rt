@@ -2,6 +2,7 @@
 
 use cert_form::Cert;
 use clause_saturate::{PlainEntry, PlainLog};
+use run_replay::Steps;
 use std::marker::Model;
 
 /// The verdict of a query. Entries of logs are counted from 1.
@@ -16,8 +17,10 @@ pub enum Verdict {
     /// The visit of this point is too large.
     SizePoint(u32),
     /// The log is closed, and this is the first of its live solved entries with the conclusion `bad` that doesn't satisfy
-    /// the query.
+    /// the query. It tells no attack.
     Unmet(PlainLog, usize),
+    /// The log is closed, and the first such entry tells this run, which violates the query.
+    Attack(Steps),
 }
 
 /// Verdicts in order.

@@ -13,22 +13,47 @@ ghost use Rattle.clause_form.specs.Seen.{clause_at};
 ghost use Rattle.query_derive.specs.GoalRows.{OfQuery};
 ghost use Rattle.clause_saturate.specs.Logs.{IsLogOf, IsClosedLog};
 ghost use Rattle.cert_writer.specs.Known.{IsKnown};
-ghost use Rattle.query_verify.specs.Asked.{CanBeAsked, AreAskedOf, Answers};
+ghost use Rattle.clause_instances.specs.Derivations.{HasNormedLog};
+ghost use Rattle.query_verify.specs.Asked.{CanBeAsked, AreAskedOf, Answers, protocol_at, IsNeverLarge, TellsUnmet};
 ghost use Rattle.query_verify.specs.Told.{IsAnswer, AnswerQueries};
 
 use crate::answers::{Verdict, Verdicts};
 use crate::question::{Asking, Question};
 use crate::sharing::all_verdicts;
+use attack_run::reconstruct;
 use cert_writer::{Certified, ClosedLog, KnownRows, certify_with, none_known};
 use clause_form::Clause;
-use clause_saturate::{Log, Saturated, entries_tell_logs, read_entry, read_log, saturate};
+use clause_saturate::{
+    Log, PlainLog, Saturated, entries_tell_logs, read_entry, read_log, saturate,
+};
 use clause_translate::{Translated, translate};
 use pi_tree::Protocol;
 use spec_translation::{
-    translations_are_normal, translations_are_within_the_limit, translations_have_one_goal,
+    one_translation, translations_are_normal, translations_are_within_the_limit,
+    translations_have_one_goal,
 };
 use std::alloc::{AllocError, Global};
 use term_tree::Bank;
+
+/// The verdict where the entry of that number, of a closed log, doesn't satisfy the query.
+fn unsatisfied(question: &Question<'_>, log: PlainLog, number: usize) -> Result<Verdict, AllocError>
+    requires question { CanBeAsked question.now }
+    requires small { IsNeverLarge (protocol_at question.now) }
+    requires normed { HasNormedLog log }
+    ensures { IfOk result (λ answer. TellsUnmet question.now log number answer) }
+{
+    let attack = reconstruct(
+        question.alloc,
+        question.protocol,
+        question.query,
+        &log,
+        number,
+    )?;
+    match attack {
+        Some(steps) => Ok(Verdict::Attack(steps)),
+        None => Ok(Verdict::Unmet(log, number)),
+    }
+}
 
 /// The verdict where the log is closed.
 pub(crate) fn closed<B: Bank>(
@@ -50,6 +75,9 @@ pub(crate) fn closed<B: Bank>(
     ensures bank { B.trees bank.new ≡ B.trees bank.old }
 {
     entries_tell_logs();
+    one_translation();
+    translations_are_normal();
+    translations_are_within_the_limit();
     let asked = ClosedLog {
         protocol: question.protocol,
         query: question.query,
@@ -60,7 +88,7 @@ pub(crate) fn closed<B: Bank>(
         Certified::Cert(cert) => Ok(Verdict::Proved(cert)),
         Certified::Unsatisfied(number) => {
             let entries = read_log(question.alloc, bank, log)?;
-            Ok(Verdict::Unmet(entries, number))
+            unsatisfied(question, entries, number)
         }
     }
 }

@@ -136,7 +136,6 @@ fn finished<B: Bank>(
 ) -> Result<Verdict, AllocError>
     ghost shared: { Shared }
     requires question { CanBeAsked question.now }
-    requires queries { HasProperQueries (protocol_at question.now) }
     requires given { IsCommonTo (protocol_at question.now) (B.trees bank.old) given.now }
     requires shared { shared ≡ shared_of (B.trees bank.old) given.now question.now.budget }
     requires common { IsCommonOf (B.trees bank.old) shared sharing.old.common }
@@ -174,7 +173,6 @@ fn decided_by<B: Bank>(
     sharing: &mut Sharing,
 ) -> Result<Verdict, AllocError>
     requires question { CanBeAsked question.now }
-    requires queries { HasProperQueries (protocol_at question.now) }
     requires given { IsCommonTo (protocol_at question.now) (B.trees bank.old) given.now }
     requires common { IsFreshCommon (B.trees bank.old)
         (shared_of (B.trees bank.old) given.now question.now.budget) sharing.old.common }
@@ -200,6 +198,8 @@ fn shared_verdicts<B: Bank>(
     sharing: &mut Sharing,
 ) -> Result<Verdicts, AllocError>
     requires limits { IsWithinLimits (protocol_of asking.now.protocol.now) }
+    requires rules { HasProperRules (protocol_of asking.now.protocol.now) }
+    requires scoped { IsWellScoped (protocol_of asking.now.protocol.now) }
     requires queries { HasProperQueries (protocol_of asking.now.protocol.now) }
     requires budget { asking.now.budget < 2 ^ 32 }
     requires given { IsCommonTo (protocol_of asking.now.protocol.now) (B.trees bank.old) given.now }
@@ -231,6 +231,8 @@ fn begun_verdicts<B: Bank>(
     given: &[Clause],
 ) -> Result<Verdicts, AllocError>
     requires limits { IsWithinLimits (protocol_of asking.now.protocol.now) }
+    requires rules { HasProperRules (protocol_of asking.now.protocol.now) }
+    requires scoped { IsWellScoped (protocol_of asking.now.protocol.now) }
     requires queries { HasProperQueries (protocol_of asking.now.protocol.now) }
     requires budget { asking.now.budget < 2 ^ 32 }
     requires given { IsCommonTo (protocol_of asking.now.protocol.now) (B.trees bank.old) given.now }

@@ -6,3 +6,5 @@ pub mod OneLine
 pub mod Applying
 pub mod Violations
 pub mod Open
+pub mod Writing
+pub mod Sometime

@@ -7,3 +7,4 @@ pub mod Replay
 pub mod Limits
 pub mod Reached
 pub mod Shown
+pub mod Codes

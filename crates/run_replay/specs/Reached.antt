@@ -44,3 +44,7 @@ IsOpenAlong P steps query = (q : Query) → numbered P.queries query ≡ Some q 
 -- the first steps of that count are those at whose ends the query of that number is open
 abbrev pub IsOpenCount : Protocol → List Step → ℕ → ℕ → Type 0
 IsOpenCount P steps query count = (q : Query) → numbered P.queries query ≡ Some q → take count steps ≡ open_steps q steps
+
+-- the query is violated after some number of the steps
+abbrev pub IsViolatedSometime : Protocol → List Step → Query → Type 0
+IsViolatedSometime P steps q = (count : ℕ) × IsViolatedAfter P steps q count

@@ -1,24 +1,25 @@
 -- Reports that were read are what all bytes spell, and texts of reports are read as their claims.
-use Rattle.std.proofs.Common.{◌≡◌, ℕ, zero, suc, ◌+◌, ◌≤◌, ◌^◌, ◌==◌, if◌then◌else◌, cond, Bool, true, false, List, [], ◌∷◌, ◌++◌, length, take, drop, refl, sym, ◌∙◌, ap, subst, arith, codes, append_assoc}
+use Rattle.std.proofs.Common.{◌≡◌, inl, inr, ℕ, zero, suc, ◌+◌, ◌≤◌, ◌^◌, ◌==◌, if◌then◌else◌, cond, Bool, true, false, List, [], ◌∷◌, ◌++◌, length, length-append, map, take, drop, refl, sym, ◌∙◌, ap, subst, arith, codes, append_assoc}
 use Rattle.std.proofs.lemmas.Grind.{common_steps}
 use Rattle.std.proofs.lemmas.List.{take-append-drop, append-nil}
 use Rattle.std.proofs.lemmas.List.Folds.{length-prefix_len}
 use Rattle.std.proofs.Math.Seq.{drop-append_seam}
 use Rattle.std.specs.Fmt.{decimal}
-use Rattle.std.specs.List.{list_all, prefix_len}
+use Rattle.std.specs.List.{AllByRecursion, list_all, prefix_len}
 use Rattle.spec_calculus.specs.Bounds.{most_digits}
 use Rattle.spec_calculus.specs.Syntax.{Protocol}
 use Rattle.spec_certificates.specs.Certificate.{Certificate}
 use Rattle.spec_certificate_text.specs.Text.{certificate_text}
 use Rattle.spec_certificate_text.specs.OfProtocol.{IsShort, HasNames}
 use Rattle.spec_certificate_text.specs.Terms.{Code, Syntax, Count}
-use Rattle.spec_certificate_text.specs.Outcomes.{Outcome, Found, Faulty, next, front, Reader, read_fixed, read_number}
+use Rattle.spec_certificate_text.specs.Outcomes.{Outcome, Found, Faulty, next, front, Reader, read_fixed, read_number, lines_from}
 use Rattle.spec_certificate_text.specs.Certificates.{read_certificate}
 use Rattle.spec_certificate_text.specs.Readable.{IsReadableCertificate}
-use Rattle.spec_certificate_text.specs.Reports.{Claim, Proved, Bare, Unknown, query_number, read_text, proof_by, proved_by, read_unknown, verdict_by, claim_by, behind_claims, claims_by, read_report}
+use Rattle.spec_certificate_text.specs.Reports.{Claim, Proved, Bare, Unknown, query_number, read_text, proof_by, proved_by, read_unknown, read_step, read_run, read_attack, verdict_by, claim_by, behind_claims, claims_by, read_report}
 use Rattle.spec_certificate_text.proofs.Parts.{Finds, parts, joined, chosen, when_true, when_false, equal_byte, same_byte, fixed_there, fixed_found, run_stops, number_there, number_found}
+use Rattle.spec_certificate_text.proofs.Things.{behind_line, lines_full, line_more}
 use Rattle.spec_certificate_text.proofs.CertificatesRead.{read_certificate-there, read_certificate-found}
-use Rattle.spec_certificate_text.specs.ReportText.{query_text, in_line, IsReason, SpellsClaimBy, SpellsClaimsBy, SpellsClaim, SpellsClaims, SpellsReport}
+use Rattle.spec_certificate_text.specs.ReportText.{query_text, in_line, IsReason, steps_text, run_text, SpellsClaimBy, SpellsClaimsBy, SpellsClaim, SpellsClaims, SpellsReport}
 
 -- What was read is there.
 
@@ -72,6 +73,64 @@ as_unknown u p r = Found Unknown p r
 abbrev behind_unknown : Unit {0} → ℕ → List ℕ → Outcome Claim
 behind_unknown u p r = next (read_text r p) as_unknown
 
+-- Steps of a run, and `end`.
+
+abbrev behind_letter : Unit {0} → ℕ → List ℕ → Outcome (Unit {0})
+behind_letter u p r = read_text r p
+
+abbrev step_text : List ℕ → List ℕ → List ℕ
+step_text step rest = codes "s " ++ (step ++ 10 ∷ rest)
+
+-- steps that were found
+record Stepped (bytes rest : List ℕ) : Type 0 where
+  pub steps : List (List ℕ)
+  pub each : AllByRecursion IsReason steps
+  pub text : bytes ≡ steps_text steps rest
+
+no_step : (xs ys : List (Unit {0})) (bytes : List ℕ) (at p : ℕ) (r : List ℕ) → Found xs at bytes ≡ Found ys p r → Stepped bytes r
+no_step xs ys bytes at p r e = let rests : bytes ≡ r = cc in record { steps = []; each = tt; text = rests }
+
+one_step : (bytes : List ℕ) (at : ℕ) (u : Unit {0}) (p : ℕ) (k r : List ℕ) → read_step bytes at ≡ Found u p k → Stepped k r → Stepped bytes r
+one_step bytes at u p k r e behind =
+    let cut = parts (read_fixed (codes "s ") bytes at) behind_letter u p k e in
+    let words = fixed_there (codes "s ") bytes at cut.value cut.place cut.rest cut.first in
+    let line = text_there cut.rest cut.place u p k cut.later in
+    record {
+      steps = line.reason ∷ behind.steps;
+      each = (line.is, behind.each);
+      text = words ∙ ap (λ t. codes "s " ++ t) (line.text ∙ ap (λ t. line.reason ++ 10 ∷ t) behind.text);
+    }
+
+steps_there : (most : ℕ) (xs ys : List (Unit {0})) (bytes : List ℕ) (at p : ℕ) (r : List ℕ) → lines_from 115 read_step most xs bytes at ≡ Found ys p r → Stepped bytes r
+steps_there zero xs ys bytes at p r e =
+    chosen (front bytes == 115) (Faulty at Count) (Found xs at bytes) ys p r (Stepped bytes r) (sym (lines_full 115 read_step xs bytes at) ∙ e)
+    (λ is never. absurd (cc))
+    (λ isnt found. no_step xs ys bytes at p r found)
+steps_there (suc most) xs ys bytes at p r e =
+    chosen (front bytes == 115) (next (read_step bytes at) (behind_line 115 read_step most xs)) (Found xs at bytes) ys p r (Stepped bytes r) (sym (line_more 115 read_step most xs bytes at) ∙ e)
+    (λ is found.
+    let cut = parts (read_step bytes at) (behind_line 115 read_step most xs) ys p r found in
+    one_step bytes at cut.value cut.place cut.rest r cut.first (steps_there most (xs ++ cut.value ∷ []) ys cut.rest cut.place p r cut.later))
+    (λ isnt found. no_step xs ys bytes at p r found)
+
+abbrev behind_steps : List (Unit {0}) → ℕ → List ℕ → Outcome (Unit {0})
+behind_steps us p r = read_fixed (codes "end\n") r p
+
+-- the run that was found
+record Ran (bytes rest : List ℕ) : Type 0 where
+  pub steps : List (List ℕ)
+  pub each : AllByRecursion IsReason steps
+  pub text : bytes ≡ run_text steps rest
+
+run_there : (bytes : List ℕ) (at : ℕ) (u : Unit {0}) (p : ℕ) (r : List ℕ) → read_run bytes at ≡ Found u p r → Ran bytes r
+run_there bytes at u p r e =
+    let cut = parts (lines_from 115 read_step (length bytes) [] bytes at) behind_steps u p r e in
+    let there = steps_there (length bytes) [] cut.value bytes at cut.place cut.rest cut.first in
+    record { steps = there.steps; each = there.each; text = there.text ∙ ap (steps_text there.steps) (fixed_there (codes "end\n") cut.rest cut.place u p r cut.later) }
+
+abbrev behind_attack : Unit {0} → ℕ → List ℕ → Outcome Claim
+behind_attack u p r = next (read_run r p) as_unknown
+
 abbrev none_further : List Claim → Unit {0} → ℕ → List ℕ → Outcome (List Claim)
 none_further claims u from r = next (read_number r from) (λ n p k. Faulty from Count)
 
@@ -98,6 +157,42 @@ text_found reason rest at is =
     let behind : drop long bytes ≡ 10 ∷ rest = ap (λ k. drop k bytes) so ∙ drop-append_seam reason (10 ∷ rest) in
     when_false (long == 0) (Faulty at Syntax) (read_fixed (codes "\n") (drop long bytes) (at + long)) tt rest (ap (λ n. n == 0) so ∙ is.some)
     (subst (λ bs. Finds (read_fixed (codes "\n") bs (at + long)) tt rest) (sym behind) (fixed_found (codes "\n") rest (at + long)))
+
+step_found : (step rest : List ℕ) (at : ℕ) → IsReason step → Finds (read_step (step_text step rest) at) tt rest
+step_found step rest at is =
+    joined (read_fixed (codes "s ") (step_text step rest) at) behind_letter tt (step ++ 10 ∷ rest) tt rest (fixed_found (codes "s ") (step ++ 10 ∷ rest) at) (λ p. text_found step rest p is)
+
+abbrev passed : List (List ℕ) → List (Unit {0})
+passed steps = map (λ step. tt) steps
+
+steps_found : (most : ℕ) (xs : List (Unit {0})) (steps : List (List ℕ)) (rest : List ℕ) (at : ℕ) → length steps ≤ most → AllByRecursion IsReason steps → (front rest == 115) ≡ false
+    → Finds (lines_from 115 read_step most xs (steps_text steps rest) at) (xs ++ passed steps) rest
+steps_found zero xs [] rest at room each other =
+    let found = when_false (front rest == 115) (Faulty at Count) (Found xs at rest) xs rest other record { place = at; is = refl } in
+    subst (λ zs. Finds (lines_from 115 read_step 0 xs rest at) zs rest) (sym (append-nil xs)) record { place = found.place; is = lines_full 115 read_step xs rest at ∙ found.is }
+steps_found zero xs (step ∷ steps) rest at room each other = absurd (omega (arith, room))
+steps_found (suc most) xs [] rest at room each other =
+    let found = when_false (front rest == 115) (next (read_step rest at) (behind_line 115 read_step most xs)) (Found xs at rest) xs rest other record { place = at; is = refl } in
+    subst (λ zs. Finds (lines_from 115 read_step (suc most) xs rest at) zs rest) (sym (append-nil xs)) record { place = found.place; is = line_more 115 read_step most xs rest at ∙ found.is }
+steps_found (suc most) xs (step ∷ steps) rest at room each other =
+    let later = steps_text steps rest in
+    let text = step_text step later in
+    let same : (xs ++ tt ∷ []) ++ passed steps ≡ xs ++ tt ∷ passed steps = append_assoc xs (tt ∷ []) (passed steps) in
+    let found = when_true (front text == 115) (next (read_step text at) (behind_line 115 read_step most xs)) (Found xs at text) (xs ++ tt ∷ passed steps) rest refl
+    (joined (read_step text at) (behind_line 115 read_step most xs) tt later (xs ++ tt ∷ passed steps) rest (step_found step later at each.0)
+    (λ p. subst (λ zs. Finds (lines_from 115 read_step most (xs ++ tt ∷ []) later p) zs rest) same (steps_found most (xs ++ tt ∷ []) steps rest p (omega (arith, room)) each.1 other))) in
+    record { place = found.place; is = line_more 115 read_step most xs text at ∙ found.is }
+
+steps_long : (steps : List (List ℕ)) (rest : List ℕ) → length steps ≤ length (steps_text steps rest)
+steps_long [] rest = omega arith
+steps_long (step ∷ steps) rest = omega (arith, steps_long steps rest, length-append step (10 ∷ steps_text steps rest))
+
+run_found : (steps : List (List ℕ)) (rest : List ℕ) (at : ℕ) → AllByRecursion IsReason steps → Finds (read_run (run_text steps rest) at) tt rest
+run_found steps rest at each =
+    let bytes = run_text steps rest in
+    joined (lines_from 115 read_step (length bytes) [] bytes at) behind_steps (passed steps) (codes "end\n" ++ rest) tt rest
+    (steps_found (length bytes) [] steps (codes "end\n" ++ rest) at (steps_long steps (codes "end\n" ++ rest)) each refl)
+    (λ p. fixed_found (codes "end\n") rest p)
 
 -- Where what is read of a certificate is spelled so.
 
@@ -148,13 +243,26 @@ module _ (Spells : List ℕ → Certificate → List ℕ → Type 0) (one : Read
       let same : Unknown ≡ claim = cc in
       let rests : later.rest ≡ r = cc in
       subst (λ c. SpellsClaimBy Spells number c r whole) same
-      (why.reason, why.is, text ∙ ap (query_text number) (words ∙ ap (λ k. codes " unknown " ++ k) (why.text ∙ ap (λ k. why.reason ++ 10 ∷ k) rests)))
+      (inl (why.reason, why.is, text ∙ ap (query_text number) (words ∙ ap (λ k. codes " unknown " ++ k) (why.text ∙ ap (λ k. why.reason ++ 10 ∷ k) rests))))
+
+  attack_there : (number : ℕ) (whole bytes : List ℕ) (at : ℕ) (claim : Claim) (p : ℕ) (r : List ℕ) → whole ≡ query_text number bytes → read_attack bytes at ≡ Found claim p r → SpellsClaimBy Spells number claim r whole
+  attack_there number whole bytes at claim p r text e =
+      let cut = parts (read_fixed (codes " attack\n") bytes at) behind_attack claim p r e in
+      let words = fixed_there (codes " attack\n") bytes at cut.value cut.place cut.rest cut.first in
+      let later = parts (read_run cut.rest cut.place) as_unknown claim p r cut.later in
+      let run = run_there cut.rest cut.place later.value later.place later.rest later.first in
+      let same : Unknown ≡ claim = cc in
+      let rests : later.rest ≡ r = cc in
+      subst (λ c. SpellsClaimBy Spells number c r whole) same
+      (inr (run.steps, run.each, text ∙ ap (query_text number) (words ∙ ap (λ k. codes " attack\n" ++ k) (run.text ∙ ap (run_text run.steps) rests))))
 
   verdict_there : ReadIsSpelled Spells one → (number : ℕ) (whole bytes : List ℕ) (at : ℕ) (claim : Claim) (p : ℕ) (r : List ℕ) → whole ≡ query_text number bytes → verdict_by one bytes at ≡ Found claim p r → SpellsClaimBy Spells number claim r whole
   verdict_there there number whole bytes at claim p r text e =
-      chosen (front (drop 1 bytes) == 117) (read_unknown bytes at) (proved_by one bytes at) claim p r (SpellsClaimBy Spells number claim r whole) e
+      chosen (front (drop 1 bytes) == 117) (read_unknown bytes at) (if front (drop 1 bytes) == 97 then read_attack bytes at else proved_by one bytes at) claim p r (SpellsClaimBy Spells number claim r whole) e
       (λ is found. unknown_there number whole bytes at claim p r text found)
-      (λ isnt found. proved_there there number whole bytes at claim p r text found)
+      (λ isnt other. chosen (front (drop 1 bytes) == 97) (read_attack bytes at) (proved_by one bytes at) claim p r (SpellsClaimBy Spells number claim r whole) other
+      (λ is found. attack_there number whole bytes at claim p r text found)
+      (λ neither found. proved_there there number whole bytes at claim p r text found))
 
   abbrev behind_number : Unit {0} → ℕ → List ℕ → Outcome Claim
   behind_number u p r = verdict_by one r p
@@ -205,15 +313,24 @@ module _ (Spells : List ℕ → Certificate → List ℕ → Type 0) (one : Read
   unknown_found : (reason rest : List ℕ) (at : ℕ) → IsReason reason → Finds (verdict_by one (codes " unknown " ++ (reason ++ 10 ∷ rest)) at) Unknown rest
   unknown_found reason rest at is =
       let bytes = codes " unknown " ++ (reason ++ 10 ∷ rest) in
-      when_true (front (drop 1 bytes) == 117) (read_unknown bytes at) (proved_by one bytes at) Unknown rest refl
+      when_true (front (drop 1 bytes) == 117) (read_unknown bytes at) (if front (drop 1 bytes) == 97 then read_attack bytes at else proved_by one bytes at) Unknown rest refl
       (joined (read_fixed (codes " unknown ") bytes at) behind_unknown tt (reason ++ 10 ∷ rest) Unknown rest (fixed_found (codes " unknown ") (reason ++ 10 ∷ rest) at)
       (λ p. joined (read_text (reason ++ 10 ∷ rest) p) as_unknown tt rest Unknown rest (text_found reason rest p is) (λ q. record { place = q; is = refl })))
+
+  attack_found : (steps : List (List ℕ)) (rest : List ℕ) (at : ℕ) → AllByRecursion IsReason steps → Finds (verdict_by one (codes " attack\n" ++ run_text steps rest) at) Unknown rest
+  attack_found steps rest at each =
+      let bytes = codes " attack\n" ++ run_text steps rest in
+      when_false (front (drop 1 bytes) == 117) (read_unknown bytes at) (if front (drop 1 bytes) == 97 then read_attack bytes at else proved_by one bytes at) Unknown rest refl
+      (when_true (front (drop 1 bytes) == 97) (read_attack bytes at) (proved_by one bytes at) Unknown rest refl
+      (joined (read_fixed (codes " attack\n") bytes at) behind_attack tt (run_text steps rest) Unknown rest (fixed_found (codes " attack\n") (run_text steps rest) at)
+      (λ p. joined (read_run (run_text steps rest) p) as_unknown tt rest Unknown rest (run_found steps rest p each) (λ q. record { place = q; is = refl }))))
 
   proved_found : (bytes : List ℕ) (claim : Claim) (rest : List ℕ) (at : ℕ) → ((p : ℕ) → Finds (proof_by one bytes p) claim rest) → Finds (verdict_by one (codes " proved\n" ++ bytes) at) claim rest
   proved_found bytes claim rest at found =
       let whole = codes " proved\n" ++ bytes in
-      when_false (front (drop 1 whole) == 117) (read_unknown whole at) (proved_by one whole at) claim rest refl
-      (joined (read_fixed (codes " proved\n") whole at) (behind_proved) tt bytes claim rest (fixed_found (codes " proved\n") bytes at) found)
+      when_false (front (drop 1 whole) == 117) (read_unknown whole at) (if front (drop 1 whole) == 97 then read_attack whole at else proved_by one whole at) claim rest refl
+      (when_false (front (drop 1 whole) == 97) (read_attack whole at) (proved_by one whole at) claim rest refl
+      (joined (read_fixed (codes " proved\n") whole at) (behind_proved) tt bytes claim rest (fixed_found (codes " proved\n") bytes at) found))
 
   certificate_found : SpelledIsRead Spells one → (text : List ℕ) (c : Certificate) (rest : List ℕ) (at : ℕ) → Spells text c rest → Finds (proof_by one text at) (Proved c) rest
   certificate_found reads text c rest at is =
@@ -235,16 +352,20 @@ module _ (Spells : List ℕ → Certificate → List ℕ → Type 0) (one : Read
   claim_found reads number Bare rest bytes at short other is =
       subst (λ bs. Finds (claim_by one number bs at) Bare rest) (sym is)
       (numbered_found number (codes "proved\n" ++ rest) Bare rest at short (λ p. proved_found rest Bare rest p (λ q. bare_found rest q other)))
-  claim_found reads number Unknown rest bytes at short other is =
+  claim_found reads number Unknown rest bytes at short other (inl is) =
       subst (λ bs. Finds (claim_by one number bs at) Unknown rest) (sym is.2)
       (numbered_found number (codes "unknown " ++ (is.0 ++ 10 ∷ rest)) Unknown rest at short (λ p. unknown_found is.0 rest p is.1))
+  claim_found reads number Unknown rest bytes at short other (inr is) =
+      subst (λ bs. Finds (claim_by one number bs at) Unknown rest) (sym is.2)
+      (numbered_found number (codes "attack\n" ++ run_text is.0 rest) Unknown rest at short (λ p. attack_found is.0 rest p is.1))
 
   -- A claim begins with the first letter of `query`.
 
   claim_begins : (number : ℕ) (claim : Claim) (rest bytes : List ℕ) → SpellsClaimBy Spells number claim rest bytes → bytes ≡ 113 ∷ drop 1 bytes
   claim_begins number (Proved c) rest bytes is = subst (λ bs. bs ≡ 113 ∷ drop 1 bs) (sym is.2) refl
   claim_begins number Bare rest bytes is = subst (λ bs. bs ≡ 113 ∷ drop 1 bs) (sym is) refl
-  claim_begins number Unknown rest bytes is = subst (λ bs. bs ≡ 113 ∷ drop 1 bs) (sym is.2) refl
+  claim_begins number Unknown rest bytes (inl is) = subst (λ bs. bs ≡ 113 ∷ drop 1 bs) (sym is.2) refl
+  claim_begins number Unknown rest bytes (inr is) = subst (λ bs. bs ≡ 113 ∷ drop 1 bs) (sym is.2) refl
 
   no_certificate : (number : ℕ) (claims : List Claim) (bytes : List ℕ) → SpellsClaimsBy Spells number claims bytes → (front bytes == 99) ≡ false
   no_certificate number [] bytes is = ap (λ bs. front bs == 99) is

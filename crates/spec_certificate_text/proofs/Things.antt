@@ -128,7 +128,7 @@ lines_full letter r xs bytes at = refl
 abbrev pub behind_line : {A : Type 0} → ℕ → Reader A → ℕ → List A → A → ℕ → List ℕ → Outcome (List A)
 behind_line letter r most xs x place rest = lines_from letter r most (xs ++ x ∷ []) rest place
 
-line_more : {A : Type 0} (letter : ℕ) (r : Reader A) (most : ℕ) (xs : List A) (bytes : List ℕ) (at : ℕ)
+pub line_more : {A : Type 0} (letter : ℕ) (r : Reader A) (most : ℕ) (xs : List A) (bytes : List ℕ) (at : ℕ)
     → lines_from letter r (suc most) xs bytes at ≡ (if front bytes == letter then next (r bytes at) (behind_line letter r most xs) else Found xs at bytes)
 unfolding lines_from
 line_more letter r most xs bytes at = refl

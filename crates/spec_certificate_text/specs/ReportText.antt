@@ -1,7 +1,7 @@
 -- The texts of reports: what is claimed of each query, in order.
-use Rattle.std.specs.Prelude.{◌≡◌, ℕ, ◌+◌, ◌==◌, Bool, not, true, false, List, [], ◌∷◌, ◌++◌, length, codes}
+use Rattle.std.specs.Prelude.{◌≡◌, ℕ, ◌+◌, ◌==◌, ◌⊎◌, Bool, not, true, false, List, [], ◌∷◌, ◌++◌, length, codes}
 use Rattle.std.specs.Fmt.{decimal}
-use Rattle.std.specs.List.{list_all}
+use Rattle.std.specs.List.{AllByRecursion, list_all}
 use Rattle.spec_calculus.specs.Syntax.{Protocol}
 use Rattle.spec_certificates.specs.Certificate.{Certificate}
 use Rattle.spec_certificate_text.specs.Text.{certificate_text}
@@ -16,10 +16,25 @@ query_text number rest = codes "query " ++ (decimal number ++ rest)
 abbrev pub in_line : ℕ → Bool
 in_line b = not (b == 10)
 
--- a reason: some bytes, one at least, on one line
+-- a reason, or a step: some bytes, one at least, on one line
 pub record IsReason (reason : List ℕ) : Type 0 where
   pub some : (length reason == 0) ≡ false
   pub one_line : list_all in_line reason ≡ true
+
+-- the steps of a run, each behind `s ` on a line of its own
+abbrev pub steps_text : List (List ℕ) → List ℕ → List ℕ
+steps_text [] rest = rest
+steps_text (step ∷ steps) rest = codes "s " ++ (step ++ 10 ∷ steps_text steps rest)
+
+-- the steps of a run, and `end`
+abbrev pub run_text : List (List ℕ) → List ℕ → List ℕ
+run_text steps rest = steps_text steps (codes "end\n" ++ rest)
+
+-- what is told of a query that is not proved: a reason, or the run of an attack; neither is looked at
+abbrev pub SpellsUnknown : ℕ → List ℕ → List ℕ → Type 0
+SpellsUnknown number rest bytes =
+    ((reason : List ℕ) × IsReason reason × (bytes ≡ query_text number (codes " unknown " ++ (reason ++ 10 ∷ rest)))) ⊎
+    ((steps : List (List ℕ)) × AllByRecursion IsReason steps × (bytes ≡ query_text number (codes " attack\n" ++ run_text steps rest)))
 
 -- Where the bytes spell this certificate, and then the rest.
 module _ (Spells : List ℕ → Certificate → List ℕ → Type 0) where
@@ -28,8 +43,7 @@ module _ (Spells : List ℕ → Certificate → List ℕ → Type 0) where
   SpellsClaimBy number (Proved certificate) rest bytes =
       (text : List ℕ) × Spells text certificate rest × (bytes ≡ query_text number (codes " proved\n" ++ text))
   SpellsClaimBy number Bare rest bytes = bytes ≡ query_text number (codes " proved\n" ++ rest)
-  SpellsClaimBy number Unknown rest bytes =
-      (reason : List ℕ) × IsReason reason × (bytes ≡ query_text number (codes " unknown " ++ (reason ++ 10 ∷ rest)))
+  SpellsClaimBy number Unknown rest bytes = SpellsUnknown number rest bytes
 
   -- the bytes are these claims, the first of which is of the query of that number
   abbrev pub SpellsClaimsBy : ℕ → List Claim → List ℕ → Type 0
@@ -45,8 +59,7 @@ SpellsClaim P number (Proved certificate) rest bytes =
     IsReadableCertificate P certificate ×
     (bytes ≡ query_text number (codes " proved\n" ++ certificate_text P certificate rest))
 SpellsClaim P number Bare rest bytes = bytes ≡ query_text number (codes " proved\n" ++ rest)
-SpellsClaim P number Unknown rest bytes =
-    (reason : List ℕ) × IsReason reason × (bytes ≡ query_text number (codes " unknown " ++ (reason ++ 10 ∷ rest)))
+SpellsClaim P number Unknown rest bytes = SpellsUnknown number rest bytes
 
 -- the bytes are these claims, the first of which is of the query of that number
 abbrev pub SpellsClaims : Protocol → ℕ → List Claim → List ℕ → Type 0

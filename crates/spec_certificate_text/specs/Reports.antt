@@ -4,7 +4,7 @@ use Rattle.std.specs.List.{position_or_len}
 use Rattle.spec_calculus.specs.Syntax.{Protocol}
 use Rattle.spec_certificates.specs.Certificate.{Certificate}
 use Rattle.spec_certificate_text.specs.Terms.{Syntax, Count}
-use Rattle.spec_certificate_text.specs.Outcomes.{Outcome, Found, Faulty, next, front, read_fixed, read_number, Reader}
+use Rattle.spec_certificate_text.specs.Outcomes.{Outcome, Found, Faulty, next, front, read_fixed, read_number, Reader, lines_from}
 use Rattle.spec_certificate_text.specs.Certificates.{read_certificate}
 
 -- what a report claims of a query: that it is proved, with a certificate or without one, or that this is unknown
@@ -30,6 +30,20 @@ read_unknown bytes at =
     next (read_fixed (codes " unknown ") bytes at) (λ _ p r.
     next (read_text r p) (λ _ p r. Found Unknown p r))
 
+-- a step of a run: `s ` and some bytes on a line, which are not looked at
+abbrev pub read_step : Reader (Unit {0})
+read_step bytes at = next (read_fixed (codes "s ") bytes at) (λ _ p r. read_text r p)
+
+-- the steps of a run, of which there are no more than bytes, and `end`
+abbrev pub read_run : Reader (Unit {0})
+read_run bytes at = next (lines_from 115 read_step (length bytes) [] bytes at) (λ _ p r. read_fixed (codes "end\n") r p)
+
+-- an attack shows no proof, and so its claim is read as unknown
+abbrev pub read_attack : List ℕ → ℕ → Outcome Claim
+read_attack bytes at =
+    next (read_fixed (codes " attack\n") bytes at) (λ _ p r.
+    next (read_run r p) (λ _ p r. Found Unknown p r))
+
 -- behind the claim of the last query there is nothing: no number is that of a further query
 abbrev pub behind_claims : List Claim → ℕ → List ℕ → Outcome (List Claim)
 behind_claims claims at [] = Found claims at []
@@ -45,9 +59,12 @@ module _ (one : Reader Certificate) where
   abbrev pub proved_by : List ℕ → ℕ → Outcome Claim
   proved_by bytes at = next (read_fixed (codes " proved\n") bytes at) (λ _ p r. proof_by r p)
 
-  -- what is claimed: the second byte tells ` unknown ` from ` proved`
+  -- what is claimed: the second byte tells ` unknown `, ` attack` and ` proved` apart
   abbrev pub verdict_by : List ℕ → ℕ → Outcome Claim
-  verdict_by bytes at = if front (drop 1 bytes) == 117 then read_unknown bytes at else proved_by bytes at
+  verdict_by bytes at =
+      if front (drop 1 bytes) == 117 then read_unknown bytes at
+      else if front (drop 1 bytes) == 97 then read_attack bytes at
+      else proved_by bytes at
 
   -- the claim of the query of this number
   abbrev pub claim_by : ℕ → List ℕ → ℕ → Outcome Claim

@@ -3,3 +3,4 @@ pub mod Counting
 pub mod Rows
 pub mod Beginning
 pub mod Ways
+pub mod Labelling

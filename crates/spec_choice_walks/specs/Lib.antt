@@ -1,2 +1,3 @@
 pub mod Instructions
 pub mod Stage
+pub mod Labels

@@ -16,6 +16,7 @@ ghost use Rattle.spec_translation.specs.Choice.{EachGoesOn};
 ghost use Rattle.spec_translation.specs.Conversion.{Scope, symbol_over, term_in, rule_term};
 ghost use Rattle.spec_translation.specs.Applied.{rule_width, ruled_arguments, ruled_sides};
 ghost use Rattle.spec_choice_walks.specs.Instructions.{Instruction, instructions, completions, choices_by, BecomesOne, applied_by};
+ghost use Rattle.spec_choice_walks.specs.Labels.{labels_by};
 ghost use Rattle.spec_choice_walks.specs.Stage.{terms_of_row, arguments_of_row, sides_of_row, width_of_row, Begins};
 
 /// The choices of an expression are what an empty row becomes by its instructions; there are as many as these tell, and they apply as many
@@ -27,6 +28,12 @@ pub fn choices_by_instructions()
     ensures counted { (P : Protocol) (parts : List Instruction) (row : List Ruled) →
         BecomesOne (length row) parts → length (completions P parts row) ≡ choices_by P parts }
     ensures applied { (e : Expression) → applied_by (instructions e) ≡ applications e }
+{}
+
+/// The labels that the instructions of an expression leave are those of its choices, in order.
+pub fn labels_by_instructions()
+    ensures { (P : Protocol) (e : Expression) → labels_by P (instructions e) ≡ map
+        (λ c. c.rules) (choices P e) }
 {}
 
 /// The equations of each completion of a row begin with those of the row: where these have no unifier, none of its completions has.

@@ -10,28 +10,28 @@ use Rattle.spec_certificate_text.specs.OfProtocol.{HasNames}
 use Rattle.spec_certificate_text.specs.Terms.{Code, Syntax, Number, Symbol, Arity, Count, NodeOrder, NodeLarge}
 use Rattle.spec_certificate_text.specs.Outcomes.{Outcome, Found, Faulty, next, front, ended, Reader, read_fixed, read_number}
 use Rattle.spec_certificate_text.specs.Certificates.{read_certificate}
-use Rattle.spec_certificate_text.specs.Reports.{Claim, Proved, Bare, Unknown, read_text, proof_by, read_unknown, proved_by, verdict_by, claim_by, claims_by, claims_from}
+use Rattle.spec_certificate_text.specs.Reports.{Claim, Proved, Bare, Unknown, read_text, read_step, read_run, proof_by, read_unknown, read_attack, proved_by, verdict_by, claim_by, claims_by, claims_from}
 use Rattle.spec_certificate_text.proofs.Parts.{other_byte, same_byte}
 use Rattle.spec_certificate_text.specs.ReportText.{in_line}
 use Rattle.spec_reading_faults.proofs.Shared.{Shares, IsLocal, choice_local}
 use Rattle.spec_reading_faults.proofs.Parts.{same_local}
-use Rattle.spec_reading_faults.proofs.Reports.{verdict_local, claims_local}
+use Rattle.spec_reading_faults.proofs.Reports.{step_moves, attack_or_proof-local, verdict_local, claims_local}
 use Rattle.spec_certificate_faults.specs.Grammar.{EndsAt}
 use Rattle.spec_certificate_faults.specs.First.{Kind, code_number}
 use Rattle.spec_first_faults.specs.Kinds.{fixed, runs, nothing_before, behind, one_of, marked}
 use Rattle.spec_first_faults.specs.Numbers.{numbers}
 use Rattle.spec_first_faults.specs.Clauses.{certificates}
-use Rattle.spec_first_faults.specs.Reports.{reasons, BeginsNone, proofs_with, verdicts_with, OrderFault, claims_about_with, PastFault, AtEnd, anything_else, LeftFault, claims_with, reports}
+use Rattle.spec_first_faults.specs.Reports.{reasons, step_lines, run_lines, BeginsNone, proofs_with, verdicts_with, OrderFault, claims_about_with, PastFault, AtEnd, anything_else, LeftFault, claims_with, reports}
 use Rattle.spec_first_faults.proofs.Tells.{Anything, IsLast, GoesPastIt, Forms, Tells, mapped, mapped_tells, same_tells, tells_of, tells_before, tells_last}
 use Rattle.spec_first_faults.proofs.Behind.{then_read, both_tell}
-use Rattle.spec_first_faults.proofs.OneOf.{chosen, IsToldBy, told_by_fixed, one_of_tells}
+use Rattle.spec_first_faults.proofs.OneOf.{chosen, IsToldBy, told_by_fixed, told_alone, either_told, one_of_tells}
 use Rattle.spec_first_faults.proofs.Small.{AreTests, fixed_tells, nothing_tells, run_read, runs_tell}
 use Rattle.spec_first_faults.proofs.Closed.{behind_fixed}
 use Rattle.spec_first_faults.proofs.Marked.{judged, checked, IsJudged, Judges, marked_tells}
-use Rattle.spec_first_faults.proofs.Many.{next_twice, behind_told, count_local}
+use Rattle.spec_first_faults.proofs.Many.{AreLines, next_twice, behind_told, count_local, lines_tell}
 use Rattle.spec_first_faults.proofs.Numbers.{run_long, digits_past, numbers_tell, number_found_so, number_of_digits, none_left}
 use Rattle.spec_first_faults.proofs.Rows.{next_same}
-use Rattle.spec_first_faults.proofs.Clauses.{certificates_tell}
+use Rattle.spec_first_faults.proofs.Clauses.{begun_long, begun_within, any_follows, certificates_tell}
 
 -- Reasons.
 
@@ -58,6 +58,25 @@ reasons_tell =
     (both_tell (runs in_line in_line) (fixed (codes "\n")) Anything Anything (EndsAt in_line) Anything (run_read in_line in_line) (λ _ _. read_fixed (codes "\n")) (runs_tell in_line in_line in_line-tests) (λ at w. fixed_tells (codes "\n"))
     (fixed_tells (codes "\n")).forms (λ bs rest text. subst (EndsAt in_line) (sym text) refl) (λ bs mid of text. tt))
 
+-- The steps of a run, and `end`.
+
+step_tells : Tells ⊥ step_lines Anything Anything read_step
+step_tells = behind_fixed (codes "s ") reasons Anything (λ _ _. read_text) (λ at u. reasons_tell)
+
+step_lines-are : AreLines step_lines (fixed (codes "end\n")) 115
+step_lines-are = record {
+  begins = told_by_fixed (codes "s ") reasons (λ bs. front bs == 115) true (λ rest. refl);
+  ends = told_alone (codes "end\n") (λ bs. front bs == 115) false (λ rest. refl);
+  letter_is = refl;
+  long = begun_long 115 (32 ∷ []) reasons Anything reasons_tell.forms;
+  within = begun_within 115 (32 ∷ []) reasons Anything reasons_tell.forms;
+}
+
+run_tells : Tells ⊥ run_lines Anything Anything read_run
+run_tells =
+    lines_tell step_lines (fixed (codes "end\n")) Anything Anything 115 read_step (λ us. read_fixed (codes "end\n")) step_tells step_moves step_lines-are (any_follows step_lines (fixed (codes "end\n")))
+    (λ us. fixed_tells (codes "end\n"))
+
 -- Where such a reader of certificates tells the first fault of such a kind, which is told by its first byte.
 
 pub record ReadsProofs (K : Kind) (one : Reader Certificate) : Type 0 where
@@ -77,17 +96,40 @@ proofs_tell K one reads =
     record { texts = λ bytes rest text. ap test text.0 ∙ text.1; faults = λ code bytes there fault. absurd fault }
     (choice_local (λ b. b == 99) (mapped (λ c. Proved c) one) (λ bytes at. Found Bare at bytes) first.local second.local)
 
+-- the claim of an attack, or that of a proof
+attack_or_proof : Reader Certificate → Reader Claim
+attack_or_proof one bytes at = if front (drop 1 bytes) == 97 then read_attack bytes at else proved_by one bytes at
+
+attacks_tell : Tells ⊥ (behind (fixed (codes " attack\n")) run_lines) Anything Anything read_attack
+attacks_tell = behind_fixed (codes " attack\n") run_lines Anything (λ _ _. mapped (λ (u : Unit {0}). Unknown) read_run) (λ at u. mapped_tells run_lines Anything Anything read_run (λ (u : Unit {0}). Unknown) run_tells)
+
+attack_or_proof-tells : (K : Kind) (one : Reader Certificate) → ReadsProofs K one → Tells ⊥ (one_of (behind (fixed (codes " attack\n")) run_lines) (behind (fixed (codes " proved\n")) (proofs_with K))) Anything BeginsNone (attack_or_proof one)
+unfolding attack_or_proof
+attack_or_proof-tells N one reads =
+    let test = λ (bs : List ℕ). front (drop 1 bs) == 97 in
+    let K = behind (fixed (codes " attack\n")) run_lines in
+    let L = behind (fixed (codes " proved\n")) (proofs_with N) in
+    let second = behind_fixed (codes " proved\n") (proofs_with N) BeginsNone (λ _ _. proof_by one) (λ at u. proofs_tell N one reads) in
+    one_of_tells K L Anything BeginsNone test read_attack (proved_by one)
+    (tells_before K (λ bs. Anything bs × (test bs ≡ true)) Anything BeginsNone read_attack [] (λ other is. tt) refl (tells_of K Anything (λ bs. Anything bs × (test bs ≡ true)) Anything read_attack (λ bs of. tt) attacks_tell))
+    (tells_of L Anything (λ bs. Anything bs × (test bs ≡ false)) BeginsNone (proved_by one) (λ bs of. tt) second)
+    (told_by_fixed (codes " attack\n") run_lines test true (λ rest. refl)) (told_by_fixed (codes " proved\n") (proofs_with N) test false (λ rest. refl)) (attack_or_proof-local one reads.tells.local)
+
 verdicts_tell : (K : Kind) (one : Reader Certificate) → ReadsProofs K one → Tells ⊥ (verdicts_with K) Anything BeginsNone (verdict_by one)
+unfolding attack_or_proof
 verdicts_tell N one reads =
     let test = λ (bs : List ℕ). front (drop 1 bs) == 117 in
     let K = behind (fixed (codes " unknown ")) reasons in
-    let L = behind (fixed (codes " proved\n")) (proofs_with N) in
+    let attacks = behind (fixed (codes " attack\n")) run_lines in
+    let proofs = behind (fixed (codes " proved\n")) (proofs_with N) in
+    let L = one_of attacks proofs in
     let first = behind_fixed (codes " unknown ") reasons Anything (λ _ _. mapped (λ (u : Unit {0}). Unknown) read_text) (λ at u. mapped_tells reasons Anything Anything read_text (λ (u : Unit {0}). Unknown) reasons_tell) in
-    let second = behind_fixed (codes " proved\n") (proofs_with N) BeginsNone (λ _ _. proof_by one) (λ at u. proofs_tell N one reads) in
-    one_of_tells K L Anything BeginsNone test read_unknown (proved_by one)
+    one_of_tells K L Anything BeginsNone test read_unknown (attack_or_proof one)
     (tells_before K (λ bs. Anything bs × (test bs ≡ true)) Anything BeginsNone read_unknown [] (λ other is. tt) refl (tells_of K Anything (λ bs. Anything bs × (test bs ≡ true)) Anything read_unknown (λ bs of. tt) first))
-    (tells_of L Anything (λ bs. Anything bs × (test bs ≡ false)) BeginsNone (proved_by one) (λ bs of. tt) second)
-    (told_by_fixed (codes " unknown ") reasons test true (λ rest. refl)) (told_by_fixed (codes " proved\n") (proofs_with N) test false (λ rest. refl)) (verdict_local one reads.tells.local)
+    (tells_of L Anything (λ bs. Anything bs × (test bs ≡ false)) BeginsNone (attack_or_proof one) (λ bs of. tt) (attack_or_proof-tells N one reads))
+    (told_by_fixed (codes " unknown ") reasons test true (λ rest. refl))
+    (either_told attacks proofs test false (told_by_fixed (codes " attack\n") run_lines test false (λ rest. refl)) (told_by_fixed (codes " proved\n") (proofs_with N) test false (λ rest. refl)))
+    (verdict_local one reads.tells.local)
 
 -- The number of a query.
 
@@ -163,7 +205,8 @@ about_tells N one reads number =
   where
     follows : (bs rest : List ℕ) → (verdicts_with N).Text bs rest → EndsAt is_ascii_digit bs
     follows bs rest (inl (mid, text, more)) = subst (EndsAt is_ascii_digit) (sym text) refl
-    follows bs rest (inr (mid, text, more)) = subst (EndsAt is_ascii_digit) (sym text) refl
+    follows bs rest (inr (inl (mid, text, more))) = subst (EndsAt is_ascii_digit) (sym text) refl
+    follows bs rest (inr (inr (mid, text, more))) = subst (EndsAt is_ascii_digit) (sym text) refl
 
     same : (bytes : List ℕ) (at : ℕ) → claim_by one number bytes at ≡ then_read (read_fixed (codes "query ")) (λ _ _. then_read (checked (judge_order number) read_number) (λ _ _. verdict_by one)) bytes at
     same bytes at =

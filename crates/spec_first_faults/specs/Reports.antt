@@ -9,15 +9,23 @@ use Rattle.spec_certificate_text.specs.Outcomes.{front}
 use Rattle.spec_certificate_text.specs.ReportText.{in_line}
 use Rattle.spec_certificate_faults.specs.Grammar.{EndsAt}
 use Rattle.spec_certificate_faults.specs.First.{Kind}
-use Rattle.spec_first_faults.specs.Kinds.{fixed, IsRun, runs, nothing_before, behind, one_of, marked}
+use Rattle.spec_first_faults.specs.Kinds.{fixed, IsRun, runs, nothing_before, behind, one_of, marked, many}
 use Rattle.spec_first_faults.specs.Numbers.{numbers}
 use Rattle.spec_first_faults.specs.Clauses.{certificates}
 
 -- What is claimed of a query.
 
--- a reason: some bytes, one at least, and the end of their line
+-- a reason, or a step: some bytes, one at least, and the end of their line
 abbrev pub reasons : Kind
 reasons = behind (runs in_line in_line) (fixed (codes "\n"))
+
+-- a step behind `s `
+abbrev pub step_lines : Kind
+step_lines = behind (fixed (codes "s ")) reasons
+
+-- the steps of a run, of which there may be none, and `end`
+abbrev pub run_lines : Kind
+run_lines = many step_lines (fixed (codes "end\n"))
 
 -- no certificate begins
 abbrev pub BeginsNone : List ℕ → Type 0
@@ -30,7 +38,9 @@ abbrev pub proofs_with : Kind → Kind
 proofs_with K = one_of K (nothing_before BeginsNone)
 
 abbrev pub verdicts_with : Kind → Kind
-verdicts_with K = one_of (behind (fixed (codes " unknown ")) reasons) (behind (fixed (codes " proved\n")) (proofs_with K))
+verdicts_with K =
+    one_of (behind (fixed (codes " unknown ")) reasons)
+    (one_of (behind (fixed (codes " attack\n")) run_lines) (behind (fixed (codes " proved\n")) (proofs_with K)))
 
 -- Count: the number of another query than the next
 pub record IsOtherQuery (next : ℕ) (bytes : List ℕ) : Type 0 where

@@ -7,13 +7,13 @@ use Rattle.spec_calculus.specs.Syntax.{Protocol}
 use Rattle.spec_certificates.specs.Certificate.{Certificate}
 use Rattle.spec_certificate_text.specs.OfProtocol.{HasNames, IsShort}
 use Rattle.spec_certificate_text.specs.Terms.{Syntax, Count}
-use Rattle.spec_certificate_text.specs.Outcomes.{Outcome, Found, Faulty, next, front, read_fixed, read_number, Reader}
+use Rattle.spec_certificate_text.specs.Outcomes.{Outcome, Found, Faulty, next, front, read_fixed, read_number, Reader, lines_from}
 use Rattle.spec_certificate_text.specs.Certificates.{read_certificate}
-use Rattle.spec_certificate_text.specs.Reports.{Claim, Proved, Bare, Unknown, query_number, read_text, proof_by, verdict_by, claim_by, behind_claims, claims_by, read_report}
+use Rattle.spec_certificate_text.specs.Reports.{Claim, Proved, Bare, Unknown, query_number, read_text, read_step, read_run, proof_by, proved_by, read_attack, verdict_by, claim_by, behind_claims, claims_by, read_report}
 use Rattle.spec_certificate_text.specs.ReportText.{SpellsReport, in_line}
 use Rattle.spec_certificate_text.proofs.ReportsRead.{refused_is_none}
-use Rattle.spec_reading_faults.proofs.Shared.{Shares, shares_behind, Passed, IsLocal, next_local, choice_local, found_local, never_local, other_local}
-use Rattle.spec_reading_faults.proofs.Parts.{same_local, either_local, fixed_local, number_local, run, run_local}
+use Rattle.spec_reading_faults.proofs.Shared.{Shares, shares_behind, Passed, IsLocal, Moves, next_local, moves_first, choice_local, found_local, never_local, other_local}
+use Rattle.spec_reading_faults.proofs.Parts.{same_local, either_local, fixed_local, fixed_moves, number_local, run, run_local, all_lines_local}
 use Rattle.spec_reading_faults.proofs.Facts.{behind_fixed}
 use Rattle.spec_reading_faults.proofs.Certificates.{certificate_local}
 
@@ -88,6 +88,19 @@ text_local : IsLocal read_text
 unfolding some_line
 text_local = same_local read_text some_line text_as (choice_local (λ b. b == 10) no_line line no_line-local line_local)
 
+-- The steps of a run, and `end`.
+
+pub step_local : IsLocal read_step
+step_local = behind_fixed (codes "s ") read_text text_local
+
+pub step_moves : Moves read_step
+step_moves = moves_first (read_fixed (codes "s ")) (λ at u. read_text) (fixed_moves 115 (32 ∷ [])) (λ at u. text_local)
+
+run_read-local : IsLocal read_run
+run_read-local =
+    next_local (λ bytes at. lines_from 115 read_step (length bytes) [] bytes at) (λ at us. read_fixed (codes "end\n"))
+    (all_lines_local 115 read_step refl step_local step_moves) (λ at us. fixed_local (codes "end\n"))
+
 -- What is claimed, where certificates are read so.
 
 certified : Reader Certificate → Reader Claim
@@ -115,18 +128,36 @@ reason_local : IsLocal reason
 unfolding reason
 reason_local = next_local read_text (λ at u bytes p. Found Unknown p bytes) text_local (λ at u. found_local Unknown)
 
--- ` unknown ` and ` proved` begin with the same byte, and the second tells them apart.
+attack : Reader Claim
+attack bytes at = next (read_run bytes at) (λ _ p r. Found Unknown p r)
+
+attack_local : IsLocal attack
+unfolding attack
+attack_local = next_local read_run (λ at u bytes p. Found Unknown p bytes) run_read-local (λ at u. found_local Unknown)
+
+-- ` unknown `, ` attack` and ` proved` begin with the same byte, and the second tells them apart.
+
+attacked : Reader Certificate → Reader Claim
+attacked one bytes at =
+    if front bytes == 97 then next (read_fixed (codes "attack\n") bytes at) (λ _ p k. attack k p)
+    else next (read_fixed (codes "proved\n") bytes at) (λ _ p k. proof_by one k p)
+
+attacked_local : (one : Reader Certificate) → IsLocal one → IsLocal (attacked one)
+unfolding attacked
+attacked_local one local =
+    choice_local (λ b. b == 97) (λ bytes at. next (read_fixed (codes "attack\n") bytes at) (λ _ p k. attack k p)) (λ bytes at. next (read_fixed (codes "proved\n") bytes at) (λ _ p k. proof_by one k p))
+    (behind_fixed (codes "attack\n") attack attack_local) (behind_fixed (codes "proved\n") (proof_by one) (proof_local one local))
 
 second : Reader Certificate → Reader Claim
 second one bytes at =
     if front bytes == 117 then next (read_fixed (codes "unknown ") bytes at) (λ _ p k. reason k p)
-    else next (read_fixed (codes "proved\n") bytes at) (λ _ p k. proof_by one k p)
+    else attacked one bytes at
 
 second_local : (one : Reader Certificate) → IsLocal one → IsLocal (second one)
 unfolding second
 second_local one local =
-    choice_local (λ b. b == 117) (λ bytes at. next (read_fixed (codes "unknown ") bytes at) (λ _ p k. reason k p)) (λ bytes at. next (read_fixed (codes "proved\n") bytes at) (λ _ p k. proof_by one k p))
-    (behind_fixed (codes "unknown ") reason reason_local) (behind_fixed (codes "proved\n") (proof_by one) (proof_local one local))
+    choice_local (λ b. b == 117) (λ bytes at. next (read_fixed (codes "unknown ") bytes at) (λ _ p k. reason k p)) (attacked one)
+    (behind_fixed (codes "unknown ") reason reason_local) (attacked_local one local)
 
 behind_space : Reader Certificate → Reader Claim
 behind_space one bytes at = next (read_fixed (codes " ") bytes at) (λ _ p k. second one k p)
@@ -136,15 +167,33 @@ one_way true o = refl
 one_way false o = refl
 
 verdict_as : (one : Reader Certificate) (bytes : List ℕ) (at : ℕ) → verdict_by one bytes at ≡ behind_space one bytes at
-unfolding behind_space second reason read_fixed
+unfolding behind_space second attacked reason attack read_fixed
 verdict_as one [] at = refl
 verdict_as one (b ∷ bytes) at = by (b == 32)
   where
     by : (t : Bool) → (if front bytes == 117 then next (if t then read_fixed (codes "unknown ") bytes (at + 1) else Faulty at Syntax) (λ _ p k. reason k p)
+        else if front bytes == 97 then next (if t then read_fixed (codes "attack\n") bytes (at + 1) else Faulty at Syntax) (λ _ p k. attack k p)
         else next (if t then read_fixed (codes "proved\n") bytes (at + 1) else Faulty at Syntax) (λ _ p k. proof_by one k p))
         ≡ next {A = Unit {0}} {B = Claim} (if t then Found tt (at + 1) bytes else Faulty at Syntax) (λ _ p k. second one k p)
     by true = refl
-    by false = one_way (front bytes == 117) (Faulty at Syntax)
+    by false = ap (λ o. if front bytes == 117 then Faulty at Syntax else o) (one_way (front bytes == 97) (Faulty at Syntax)) ∙ one_way (front bytes == 117) (Faulty at Syntax)
+
+-- the same where none is told as unknown for a reason
+attacked_as : (one : Reader Certificate) (bytes : List ℕ) (at : ℕ) → (if front (drop 1 bytes) == 97 then read_attack bytes at else proved_by one bytes at) ≡ next (read_fixed (codes " ") bytes at) (λ _ p k. attacked one k p)
+unfolding attacked attack read_fixed
+attacked_as one [] at = refl
+attacked_as one (b ∷ bytes) at = by (b == 32)
+  where
+    by : (t : Bool) → (if front bytes == 97 then next (if t then read_fixed (codes "attack\n") bytes (at + 1) else Faulty at Syntax) (λ _ p k. attack k p)
+        else next (if t then read_fixed (codes "proved\n") bytes (at + 1) else Faulty at Syntax) (λ _ p k. proof_by one k p))
+        ≡ next {A = Unit {0}} {B = Claim} (if t then Found tt (at + 1) bytes else Faulty at Syntax) (λ _ p k. attacked one k p)
+    by true = refl
+    by false = one_way (front bytes == 97) (Faulty at Syntax)
+
+pub attack_or_proof-local : (one : Reader Certificate) → IsLocal one → IsLocal (λ bytes at. if front (drop 1 bytes) == 97 then read_attack bytes at else proved_by one bytes at)
+attack_or_proof-local one local =
+    same_local (λ bytes at. if front (drop 1 bytes) == 97 then read_attack bytes at else proved_by one bytes at) (λ bytes at. next (read_fixed (codes " ") bytes at) (λ _ p k. attacked one k p)) (attacked_as one)
+    (behind_fixed (codes " ") (attacked one) (attacked_local one local))
 
 pub verdict_local : (one : Reader Certificate) → IsLocal one → IsLocal (verdict_by one)
 unfolding behind_space

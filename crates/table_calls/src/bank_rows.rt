@@ -11,6 +11,7 @@ use limits::MOST_KEYS;
 use pi_tree::Protocol;
 use query_verify::{Verdict, verdicts};
 use ring_writer::make_ring;
+use run_replay::Steps;
 use spec_protocol_scope::{proper_rules, query_leaves, well_scoped, within_limits};
 use std::alloc::{AllocError, Global};
 use table_protocols::spelled;
@@ -169,8 +170,17 @@ impl Told {
                 self.whole
                     .push_str(format!(in alloc; " {number}")?.as_str())
             }
+            Verdict::Attack(steps) => add_steps(alloc, steps, &mut self.whole),
         }
     }
+}
+
+/// Adds the steps of a run.
+fn add_steps(alloc: Global, steps: &Steps, text: &mut String) -> Result<(), AllocError> {
+    for step in &steps.items {
+        text.push_str(format!(in alloc; " {step:?}")?.as_str())?;
+    }
+    Ok(())
 }
 
 /// What a verdict is called.
@@ -181,5 +191,6 @@ fn word_of(verdict: &Verdict) -> &'static str {
         Verdict::SizePair(..) => "pair",
         Verdict::SizePoint(_) => "point",
         Verdict::Unmet(..) => "clause",
+        Verdict::Attack(_) => "attack",
     }
 }

@@ -16,7 +16,7 @@ use Rattle.verifier_cli.specs.Replaying.{RunsOn, IsOutcomeOfRun}
 use Rattle.verifier_cli.specs.Ringing.{Rings}
 use Rattle.verifier_cli.specs.World.{source_of, other_of, loads_of, IsHowFar, IsOutcomeFor, IsUnreadable, ComesTo}
 use Rattle.verifier_cli.proofs.Files.{held_or_none, as_held, no_more_loads, loads_then}
-use Rattle.verifier_cli.proofs.Verifying.{Laws, Soundness, decided_verifies, decided_read, refusal_verifies, memory_verifies}
+use Rattle.verifier_cli.proofs.Verifying.{Laws, Soundness, OneAttack, decided_verifies, decided_read, refusal_verifies, memory_verifies}
 use Rattle.verifier_cli.proofs.Checking.{Acceptance, report_checks, refusal_checked, memory_checked}
 use Rattle.verifier_cli.proofs.Listing.{list_lists, listed_read, refusal_lists, memory_lists}
 use Rattle.verifier_cli.proofs.Replaying.{run_replays, refusal_replays, memory_replays, counted_later}
@@ -162,11 +162,11 @@ decided_far P budget (Verified verdicts) is = refl
 decided_far P budget Memory is = tt
 decided_far P budget _ is = absurd is
 
-pub verified_comes : Soundness → Laws → (file : List ℕ) (budget format : ℕ) (files : Outside) (P : syntax.Protocol) (outcome : Outcome) → IsDecidedBy P budget outcome
+pub verified_comes : Soundness → OneAttack → Laws → (file : List ℕ) (budget format : ℕ) (files : Outside) (P : syntax.Protocol) (outcome : Outcome) → IsDecidedBy P budget outcome
     → OfFile files file most_bytes (λ bytes. Spells bytes P) → ComesTo (Verify file budget format) files (Some P) outcome
-verified_comes sound laws file budget format files P outcome is x =
+verified_comes sound one laws file budget format files P outcome is x =
     one_comes (Verify file budget format) tt files (Some P) outcome (λ bytes. Spells bytes P) x (λ other. decided_far P budget outcome is)
-    (λ other. decided_verifies sound laws x.bytes P budget outcome is x.fact) (decided_read P budget outcome is) x.fact
+    (λ other. decided_verifies sound one laws x.bytes P budget outcome is x.fact) (decided_read P budget outcome is) x.fact
 
 listed_far : (P : syntax.Protocol) (query : ℕ) (outcome : Outcome) → IsListOf P query outcome → IsHowFar outcome 1 1
 listed_far P query (Listed clauses) is = refl

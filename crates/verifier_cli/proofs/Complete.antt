@@ -7,8 +7,8 @@ use Rattle.spec_calculus.specs.Runs.{Step}
 use Rattle.command_words.specs.Request.{Request, Verify, Check, ListOf, Replay, RingOf}
 use Rattle.verifier_cli.specs.Outside.{Outside, IsFaulty}
 use Rattle.verifier_cli.specs.Outcome.{Outcome, Usage, Verified, Checked, Listed, ListLarge, NoQuery, Replayed, Ring, Refused, ReadFault, Memory}
-use Rattle.verifier_cli.specs.Command.{IsDecidedBy, NoneViolated}
-use Rattle.verifier_cli.specs.Checking.{IsCheckOf}
+use Rattle.verifier_cli.specs.Command.{IsDecidedBy, NoneViolated, AttacksViolate}
+use Rattle.verifier_cli.specs.Checking.{IsCheckOf, IsCheckOutcome}
 use Rattle.verifier_cli.specs.Complete.{AreAccepted, IsOwnOutcome, IsOfAnswer}
 use Rattle.verifier_cli.specs.Listing.{IsListOf, IsListOutcome}
 use Rattle.verifier_cli.specs.Replaying.{IsOutcomeOfReplay, IsReplayOutcome}
@@ -57,6 +57,37 @@ violates_none asked files words outcome c = by_read (read_or_not outcome)
     by_read : (outcome ≡ ReadFault) ⊎ (outcome ≢ ReadFault) → NoneViolated c.protocol outcome
     by_read (inl e) = subst (λ (o : Outcome). NoneViolated c.protocol o) (sym e) (λ P spells k shown. absurd shown)
     by_read (inr read) = defined_violates_none asked files words outcome c (c.defined read)
+
+-- a check, a list or a replay tells no attack
+listed_attacks_none : (bytes : List ℕ) (outcome : Outcome) → IsListOutcome bytes outcome → AttacksViolate bytes outcome
+listed_attacks_none bytes (Ring ring) is = absurd is
+listed_attacks_none bytes (Verified verdicts) is = absurd is
+listed_attacks_none bytes _ is = λ P spells k steps attacked. absurd attacked
+
+replayed_attacks_none : (bytes : List ℕ) (outcome : Outcome) → IsReplayOutcome bytes outcome → AttacksViolate bytes outcome
+replayed_attacks_none bytes (Ring ring) is = absurd is
+replayed_attacks_none bytes (Verified verdicts) is = absurd is
+replayed_attacks_none bytes _ is = λ P spells k steps attacked. absurd attacked
+
+checked_attacks_none : (bytes : List ℕ) (outcome : Outcome) → IsCheckOutcome bytes outcome → AttacksViolate bytes outcome
+checked_attacks_none bytes (Ring ring) is = absurd is
+checked_attacks_none bytes (Verified verdicts) is = absurd is
+checked_attacks_none bytes _ is = λ P spells k steps attacked. absurd attacked
+
+-- each attack that is told violates its query, whatever the command
+defined_attacks_violate : (asked : Request) (files : Outside) (words : Option Protocol) (outcome : Outcome) (c : ComesTo asked files words outcome) → IsOutcomeFor asked c.protocol c.other outcome → AttacksViolate c.protocol outcome
+defined_attacks_violate (Verify file budget format) files words outcome c is = is.attacks_violate
+defined_attacks_violate (Check file report) files words outcome c is = checked_attacks_none c.protocol outcome is.answers
+defined_attacks_violate (ListOf file query) files words outcome c is = listed_attacks_none c.protocol outcome is.answers
+defined_attacks_violate (Replay file run) files words outcome c is = replayed_attacks_none c.protocol outcome is.answers
+defined_attacks_violate (RingOf stages) files words outcome c is = subst (λ (bytes : List ℕ). AttacksViolate bytes outcome) (sym c.protocol_held) is.attacks_violate
+
+pub attacks_violate : (asked : Request) (files : Outside) (words : Option Protocol) (outcome : Outcome) (c : ComesTo asked files words outcome) → AttacksViolate c.protocol outcome
+attacks_violate asked files words outcome c = by_read (read_or_not outcome)
+  where
+    by_read : (outcome ≡ ReadFault) ⊎ (outcome ≢ ReadFault) → AttacksViolate c.protocol outcome
+    by_read (inl e) = subst (λ (o : Outcome). AttacksViolate c.protocol o) (sym e) (λ P spells k steps attacked. absurd attacked)
+    by_read (inr read) = defined_attacks_violate asked files words outcome c (c.defined read)
 
 -- with no fault that is counted, each file that is asked for can be read
 readable : (asked : Request) (bytes : List ℕ) (files : Outside) → ((name : List ℕ) → IsFaulty files name → ⊥) → IsUnreadable asked bytes files → ⊥

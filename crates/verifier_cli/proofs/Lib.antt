@@ -11,5 +11,6 @@ pub mod ReadBack
 pub mod Refusals
 pub mod Replaying
 pub mod Rings
+pub mod RunText
 pub mod Verifying
 pub mod World

@@ -1,9 +1,8 @@
 -- The text of verdicts is a report that claims what they say, and what is found of it.
-use Rattle.std.proofs.Common.{◌≡◌, ℕ, zero, suc, ◌+◌, ◌≤◌, ◌==◌, false, List, [], ◌∷◌, ◌++◌, length, map, Option, None, Some, inl, inr, refl, sym, ap, subst, ◌∙◌, arith, codes, append_assoc}
+use Rattle.std.proofs.Common.{◌≡◌, ℕ, zero, suc, ◌+◌, ◌≤◌, List, [], ◌∷◌, ◌++◌, length, map, Option, None, Some, inl, inr, refl, sym, ap, subst, ◌∙◌, arith, codes, append_assoc}
 use Rattle.std.specs.Prelude.{Contains}
 use Rattle.std.specs.Fmt.{decimal}
 use Rattle.std.specs.List.{AllByRecursion}
-use Rattle.std.proofs.lemmas.Bool.Decides.{nat_tests}
 use Rattle.std.proofs.lemmas.List.{length-map}
 use Rattle.spec_calculus.specs.Bounds.{most_budget}
 use Rattle.spec_calculus.specs.Syntax.{Query, Protocol}
@@ -22,6 +21,8 @@ use Rattle.spec_certificate_text.specs.Readable.{IsReadableCertificate}
 use Rattle.spec_certificate_text.specs.Reports as reports
 use Rattle.spec_certificate_text.specs.Reports.{Claim, Unknown}
 use Rattle.spec_certificate_text.specs.ReportText.{query_text, IsReason}
+use Rattle.spec_calculus.specs.Runs.{Step}
+use Rattle.spec_run_text.specs.Spelling.{line_of}
 use Rattle.spec_node_reading.specs.Readable.{SpellsCertificate}
 use Rattle.spec_node_reading.specs.Reports.{SpellsClaim, SpellsClaims, SpellsReport}
 use Rattle.cert_form.specs.Writing.{format_for, text_in}
@@ -30,16 +31,17 @@ use Rattle.cert_checker.specs.declared.ruling.Ruling.{Ruling}
 use Rattle.cert_checker.specs.declared.ruling.Ruling.TheVariants.{Accepted, Shape, Translation, Cover, Closure, Goal, Extra}
 use Rattle.cert_checker.specs.Rulings.{ruling_of}
 use Rattle.query_verify.specs.declared.answers.Verdict.{Verdict}
-use Rattle.query_verify.specs.declared.answers.Verdict.TheVariants.{Proved, Budget, SizePair, SizePoint, Unmet}
+use Rattle.query_verify.specs.declared.answers.Verdict.TheVariants.{Proved, Budget, SizePair, SizePoint, Unmet, Attack}
 use Rattle.query_verify.specs.Told.{IsAnswer, AnswerQueries}
 use Rattle.verifier_cli.specs.declared.outcome.Finding.{Finding}
 use Rattle.verifier_cli.specs.declared.outcome.Finding.TheVariants.{Ruled, Missing, NotClaimed}
 use Rattle.verifier_cli.specs.Outcome.{Outcome, Verified, Checked, Memory}
 use Rattle.verifier_cli.specs.Command.{Becomes, Verifies}
 use Rattle.verifier_cli.specs.Checking.{IsFindingOf, AreFindingsOf, IsCheckOf}
-use Rattle.verifier_cli.specs.Text.{line, entry_text, verdict_text, verdict_lines, outcome_bytes}
+use Rattle.verifier_cli.specs.Text.{line, entry_text, run_lines, verdict_text, verdict_lines, outcome_bytes}
 use Rattle.verifier_cli.specs.ReadBack.{finding_of, IsReadBack}
 use Rattle.verifier_cli.proofs.OneLine.{IsOneLine, joined, decimal_in_line, clause_in_line}
+use Rattle.verifier_cli.proofs.RunText.{not_zero, steps_are_reasons, run_as}
 use Rattle.verifier_cli.proofs.Verifying.{verdict_where_proved}
 
 -- what a verdict claims
@@ -59,7 +61,10 @@ WrittenSpelled P = (c : Certificate) (format : ℕ) (rest : List ℕ) → IsRead
 -- The text of verdicts spells their claims.
 
 unknown_spelled : (P : Protocol) (number : ℕ) (reason rest : List ℕ) → IsReason reason → SpellsClaim P number Unknown rest (query_text number (codes " " ++ (line (codes "unknown " ++ reason) ++ rest)))
-unknown_spelled P number reason rest is = (reason, is, ap (λ k. query_text number (codes " unknown " ++ k)) (append_assoc reason (10 ∷ []) rest))
+unknown_spelled P number reason rest is = inl (reason, is, ap (λ k. query_text number (codes " unknown " ++ k)) (append_assoc reason (10 ∷ []) rest))
+
+attack_spelled : (P : Protocol) (number : ℕ) (steps : List Step) (rest : List ℕ) → SpellsClaim P number Unknown rest (query_text number (codes " " ++ ((line (codes "attack") ++ run_lines steps) ++ rest)))
+attack_spelled P number steps rest = inr (map line_of steps, steps_are_reasons steps, ap (λ k. query_text number (codes " attack\n" ++ k)) (run_as steps rest))
 
 -- the reasons
 pair_in_line : (m n : ℕ) → IsOneLine (decimal m ++ codes " " ++ decimal n)
@@ -68,9 +73,6 @@ pair_in_line m n = joined (decimal m ++ codes " ") (decimal n) (joined (decimal 
 entry_in_line : (P : Protocol) → HasWords P → (entry : Option PlainEntry) → IsOneLine (entry_text P entry)
 entry_in_line P words None = refl
 entry_in_line P words (Some entry) = clause_in_line P words entry.clause [] refl
-
-not_zero : (n : ℕ) → (suc n == 0) ≡ false
-not_zero n = grind (arith, nat_tests)
 
 -- a word, a space and what stands behind it
 spoken : (first : ℕ) (word behind : List ℕ) → IsOneLine (first ∷ word) → IsOneLine behind → IsReason ((first ∷ word) ++ behind)
@@ -90,6 +92,7 @@ verdict_spelled P words written format number (SizePoint point) rest is =
 verdict_spelled P words written format number (Unmet log entry) rest is =
     let clause = entry_text P (numbered log entry) in
     unknown_spelled P number (codes "clause " ++ clause) rest (spoken 99 (codes "lause ") clause refl (entry_in_line P words (numbered log entry)))
+verdict_spelled P words written format number (Attack steps) rest is = attack_spelled P number steps rest
 
 grouped : (a b c d e : List ℕ) → a ++ b ++ c ++ d ++ e ≡ a ++ (b ++ (c ++ (d ++ e)))
 grouped a b c d e = simp append_assoc
@@ -109,6 +112,7 @@ answer_may_be_read P q budget (Budget log due) stands is = tt
 answer_may_be_read P q budget (SizePair log solved unsolved) stands is = tt
 answer_may_be_read P q budget (SizePoint point) stands is = tt
 answer_may_be_read P q budget (Unmet log number) stands is = tt
+answer_may_be_read P q budget (Attack steps) stands is = tt
 
 answers_may_be_read : (P : Protocol) (budget : ℕ) (qs : List Query) (vs : List Verdict)
     → ((q : Query) (cert : Certificate) → Contains qs q → IsVerdict P q budget (defined.Proved cert) → IsReadableCertificate P cert)
@@ -168,6 +172,7 @@ verdict_found P q qs budget (Budget log due) f laws is found = unknown_finding P
 verdict_found P q qs budget (SizePair log solved unsolved) f laws is found = unknown_finding P q f found
 verdict_found P q qs budget (SizePoint point) f laws is found = unknown_finding P q f found
 verdict_found P q qs budget (Unmet log number) f laws is found = unknown_finding P q f found
+verdict_found P q qs budget (Attack steps) f laws is found = unknown_finding P q f found
 
 verdicts_found : (P : Protocol) (budget : ℕ) (qs : List Query) (vs : List Verdict) (fs : List Finding) → AreAccepted P budget qs → AnswerQueries P budget qs vs → AreFindingsOf P qs (map claim_of vs) fs → fs ≡ map finding_of vs
 verdicts_found P budget [] [] [] laws are found = refl

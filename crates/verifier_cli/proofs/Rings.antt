@@ -5,6 +5,7 @@ use Rattle.spec_calculus.specs.Syntax as syntax
 use Rattle.spec_calculus.specs.Syntax.{Free, Query, Secret}
 use Rattle.spec_calculus.specs.Points.{numbered}
 use Rattle.spec_calculus.specs.Secrecy.{Holds}
+use Rattle.spec_attack_runs.specs.Attack.{Violates}
 use Rattle.spec_terms.specs.Term.{Term}
 use Rattle.spec_clauses.specs.Fact.{Clause}
 use Rattle.spec_translation.specs.Translation.{Clauses, IsTranslation}
@@ -16,10 +17,10 @@ use Rattle.spec_ring_text.specs.Text.{ring_text}
 use Rattle.spec_ring_text.specs.Meaning.{ring_protocol}
 use Rattle.verifier_cli.specs.declared.outcome.Ring.{Ring as Summary}
 use Rattle.verifier_cli.specs.Outcome.{Outcome, Ring, Refused, ReadFault, Memory}
-use Rattle.verifier_cli.specs.Command.{NoneViolated}
+use Rattle.verifier_cli.specs.Command.{NoneViolated, AttacksViolate}
 use Rattle.verifier_cli.specs.Reading.{IsNoReading}
 use Rattle.verifier_cli.specs.Ringing.{HasCount, IsSummaryOf, IsRingOf, IsRingOutcome, Rings}
-use Rattle.verifier_cli.proofs.Verifying.{Soundness, Laws, none_violated}
+use Rattle.verifier_cli.proofs.Verifying.{Soundness, Laws, none_violated, attacks_violate}
 
 -- what a ring asks
 abbrev secret : Query
@@ -48,7 +49,7 @@ only_there P n same = let one : length P.queries ≡ 1 = ap (λ (X : syntax.Prot
 
 -- of want of memory
 pub memory_rings : (n : ℕ) → Rings n Memory
-memory_rings n = record { answers = tt; accepts = λ P spells. tt; none_violated = λ P spells k shown. absurd shown }
+memory_rings n = record { answers = tt; accepts = λ P spells. tt; none_violated = λ P spells k shown. absurd shown; attacks_violate = λ P spells k steps attacked. absurd attacked }
 
 -- where a text that spells a protocol is not read, there was no memory
 pub unread_is_memory : (bytes : List ℕ) → ((why : Refusal) (place : ℕ) → Refuses bytes why place → ⊥) → (outcome : Outcome) → IsNoReading bytes outcome → outcome ≡ Memory
@@ -62,18 +63,31 @@ rings_read n Memory is = λ e. cc
 rings_read n (Ring ring) is = λ e. cc
 rings_read n _ is = absurd is.answers
 
+-- the verdict is that of all queries, since there is one
+summary_answers : (P : syntax.Protocol) (n : ℕ) (ring : Summary) → IsSummaryOf P n ring → AnswerQueries P 10000 P.queries (ring.verdict ∷ [])
+summary_answers P n ring is = subst (λ (qs : List Query). AnswerQueries P 10000 qs (ring.verdict ∷ [])) (sym is.only) (is.verdict, tt)
+
 -- a query that is proved is not violated
 summary_violates_none : Soundness → Laws → (n : ℕ) (P : syntax.Protocol) (ring : Summary) → Spells (ring_text n) P → IsSummaryOf P n ring → NoneViolated (ring_text n) (Ring ring)
 summary_violates_none sound laws n P ring spelled is = λ Q spells k shown.
-    let are : AnswerQueries P 10000 P.queries (ring.verdict ∷ []) =
-    subst (λ (qs : List Query). AnswerQueries P 10000 qs (ring.verdict ∷ [])) (sym is.only) (is.verdict, tt) in
-    let holds = none_violated sound laws (ring_text n) P 10000 (ring.verdict ∷ []) spelled are Q spells 0 (shown.1.0, ap (λ (v : Verdict). Some v) shown.1.1) in
+    let holds = none_violated sound laws (ring_text n) P 10000 (ring.verdict ∷ []) spelled (summary_answers P n ring is) Q spells 0 (shown.1.0, ap (λ (v : Verdict). Some v) shown.1.1) in
     subst (λ (i : ℕ). IfSome (slice_get Q.queries i) (λ q. Holds Q q)) (sym shown.0) holds
+
+-- and what is told as an attack violates it
+summary_attacks_violate : Laws → (n : ℕ) (P : syntax.Protocol) (ring : Summary) → Spells (ring_text n) P → IsSummaryOf P n ring → AttacksViolate (ring_text n) (Ring ring)
+summary_attacks_violate laws n P ring spelled is = λ Q spells k steps attacked.
+    let violates = attacks_violate laws (ring_text n) P 10000 (ring.verdict ∷ []) spelled (summary_answers P n ring is) Q spells 0 steps (ap (λ (v : Verdict). Some v) attacked.1) in
+    subst (λ (i : ℕ). IfSome (slice_get Q.queries i) (λ q. Violates Q q steps)) (sym attacked.0) violates
 
 ring_violates_none : Soundness → Laws → (n : ℕ) (P : syntax.Protocol) (outcome : Outcome) → Spells (ring_text n) P → IsRingOf P n outcome → NoneViolated (ring_text n) outcome
 ring_violates_none sound laws n P (Ring ring) spelled is = summary_violates_none sound laws n P ring spelled is
 ring_violates_none sound laws n P Memory spelled is = λ Q spells k shown. absurd shown
 ring_violates_none sound laws n P _ spelled is = absurd is
+
+ring_attacks_violate : Laws → (n : ℕ) (P : syntax.Protocol) (outcome : Outcome) → Spells (ring_text n) P → IsRingOf P n outcome → AttacksViolate (ring_text n) outcome
+ring_attacks_violate laws n P (Ring ring) spelled is = summary_attacks_violate laws n P ring spelled is
+ring_attacks_violate laws n P Memory spelled is = λ Q spells k steps attacked. absurd attacked
+ring_attacks_violate laws n P _ spelled is = absurd is
 
 ring_outcome : (n : ℕ) (P : syntax.Protocol) (outcome : Outcome) → Spells (ring_text n) P → IsRingOf P n outcome → IsRingOutcome n outcome
 ring_outcome n P (Ring ring) spelled is = (P, spelled)
@@ -86,4 +100,5 @@ ring_said sound laws n P outcome is spelled = record {
   answers = ring_outcome n P outcome spelled is;
   accepts = λ Q spells. subst (λ (X : syntax.Protocol). IsRingOf X n outcome) (laws.one_protocol (ring_text n) P Q spelled spells) is;
   none_violated = ring_violates_none sound laws n P outcome spelled is;
+  attacks_violate = ring_attacks_violate laws n P outcome spelled is;
 }

@@ -13,7 +13,7 @@ use Rattle.verifier_cli.specs.SeenOutcome.{outcome_of}
 use Rattle.verifier_cli.specs.Text.{HasText, outcome_bytes}
 use Rattle.verifier_cli.specs.World.{ComesTo, IsWritten, World, format_of}
 use Rattle.verifier_cli.specs.declared.outcome.Outcome as declared
-use Rattle.verifier_cli.proofs.Complete.{violates_none, is_complete}
+use Rattle.verifier_cli.proofs.Complete.{violates_none, attacks_violate, is_complete}
 use Rattle.verifier_cli.proofs.Comes.{comes_after, memory_comes}
 
 -- What words ask for.
@@ -89,6 +89,7 @@ world_of law asked within files words given found after format Writes same chose
       words = given;
       comes = c;
       headline = violates_none asked files given after c;
+      attacks = attacks_violate asked files given after c;
       printed = worded;
       written = subst (λ n. Writes (outcome_bytes n given after)) chosen written;
       read_back = verdicts_back law asked within files given after c worded;
@@ -105,6 +106,7 @@ memory_world asked files outcome Writes same is written =
       words = None;
       comes = c;
       headline = violates_none asked files None Memory c;
+      attacks = attacks_violate asked files None Memory c;
       printed = refl;
       written = subst (λ o. Writes (outcome_bytes (format_of asked) None o)) is written;
       read_back = tt;

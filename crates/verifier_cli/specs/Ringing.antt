@@ -7,7 +7,7 @@ use Rattle.query_verify.specs.Told.{IsAnswer}
 use Rattle.spec_ring_text.specs.Text.{ring_text}
 use Rattle.verifier_cli.specs.declared.outcome.Ring.{Ring as Summary}
 use Rattle.verifier_cli.specs.Outcome.{Outcome, Ring, Memory}
-use Rattle.verifier_cli.specs.Command.{NoneViolated}
+use Rattle.verifier_cli.specs.Command.{NoneViolated, AttacksViolate}
 
 -- how many clauses a translation has: none where it is large
 abbrev pub clause_count : Translated → ℕ
@@ -48,3 +48,5 @@ pub record Rings (n : ℕ) (outcome : Outcome) : Type 0 where
   pub accepts : (P : syntax.Protocol) → Spells (ring_text n) P → IsRingOf P n outcome
   -- the headline
   pub none_violated : NoneViolated (ring_text n) outcome
+  -- and what is told as an attack is one
+  pub attacks_violate : AttacksViolate (ring_text n) outcome

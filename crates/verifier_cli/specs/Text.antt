@@ -5,7 +5,9 @@ use Rattle.std.specs.List.{list_all}
 use Rattle.spec_calculus.specs.Syntax as syntax
 use Rattle.spec_calculus.specs.Points.{numbered}
 use Rattle.spec_calculus.specs.Refusals as step
+use Rattle.spec_calculus.specs.Runs.{Step}
 use Rattle.spec_run_text.specs.Faults as run
+use Rattle.spec_run_text.specs.Spelling.{line_of}
 use Rattle.spec_protocol_tokens.specs.Piece as lexical
 use Rattle.spec_protocol_scope.specs.Answers as scope
 use Rattle.spec_protocol_scope.specs.Spells as spells
@@ -19,7 +21,7 @@ use Rattle.spec_certificate_text.specs.Terms as report
 use Rattle.cert_checker.specs.declared.ruling.Ruling.{Ruling}
 use Rattle.cert_checker.specs.declared.ruling.Ruling.TheVariants.{Accepted, Shape, Translation, Cover, Closure, Goal, Extra}
 use Rattle.query_verify.specs.declared.answers.Verdict.{Verdict}
-use Rattle.query_verify.specs.declared.answers.Verdict.TheVariants.{Proved, Budget, SizePair, SizePoint, Unmet}
+use Rattle.query_verify.specs.declared.answers.Verdict.TheVariants.{Proved, Budget, SizePair, SizePoint, Unmet, Attack}
 use Rattle.verifier_cli.specs.declared.outcome.Finding.{Finding}
 use Rattle.verifier_cli.specs.declared.outcome.Finding.TheVariants.{Ruled, Missing, NotClaimed}
 use Rattle.verifier_cli.specs.declared.outcome.Ring.{Ring as Summary}
@@ -34,21 +36,32 @@ abbrev pub entry_text : syntax.Protocol → Option PlainEntry → List ℕ
 entry_text P None = []
 entry_text P (Some entry) = clause_text P entry.clause []
 
--- how a verdict is spelled on one line, behind the query's number, without a certificate
+-- how a verdict is spelled on one line, behind the query's number, without a certificate or a run
 abbrev pub verdict_line : syntax.Protocol → Verdict → List ℕ
 verdict_line P (Proved certificate) = line (codes "proved")
 verdict_line P (Budget log due) = line (codes "unknown budget " ++ decimal (length log))
 verdict_line P (SizePair log solved unsolved) = line (codes "unknown size pair " ++ decimal solved ++ codes " " ++ decimal unsolved)
 verdict_line P (SizePoint point) = line (codes "unknown size point " ++ decimal point)
 verdict_line P (Unmet log number) = line (codes "unknown clause " ++ entry_text P (numbered log number))
+verdict_line P (Attack steps) = line (codes "attack")
 
--- with its certificate, in the format, or without a table where it is too large for one
+-- the steps of a run, each behind `s ` on a line of its own
+abbrev pub step_lines : List Step → List ℕ
+step_lines [] = []
+step_lines (step ∷ steps) = codes "s " ++ line (line_of step) ++ step_lines steps
+
+-- the steps of a run, and its end
+abbrev pub run_lines : List Step → List ℕ
+run_lines steps = step_lines steps ++ line (codes "end")
+
+-- with its certificate, in the format, or without a table where it is too large for one; or with its run
 abbrev pub verdict_text : ℕ → syntax.Protocol → Verdict → List ℕ
 verdict_text format P (Proved certificate) = line (codes "proved") ++ text_in (format_for format certificate.clauses) P certificate []
 verdict_text format P (Budget log due) = verdict_line P (Budget log due)
 verdict_text format P (SizePair log solved unsolved) = verdict_line P (SizePair log solved unsolved)
 verdict_text format P (SizePoint point) = verdict_line P (SizePoint point)
 verdict_text format P (Unmet log number) = verdict_line P (Unmet log number)
+verdict_text format P (Attack steps) = line (codes "attack") ++ run_lines steps
 
 -- the verdicts of the queries, the first of which has this number
 abbrev pub verdict_lines : ℕ → ℕ → List Verdict → syntax.Protocol → List ℕ

@@ -9,7 +9,7 @@ use Rattle.spec_protocol_scope.specs.Spells.{Spells}
 use Rattle.spec_ring_text.specs.Text.{ring_text}
 use Rattle.verifier_cli.specs.Outside.{Outside, IsFaulty, load_of}
 use Rattle.verifier_cli.specs.Outcome.{Protocol, Outcome, Refused, ReadFault, Memory}
-use Rattle.verifier_cli.specs.Command.{NoneViolated, Verifies}
+use Rattle.verifier_cli.specs.Command.{NoneViolated, AttacksViolate, Verifies}
 use Rattle.verifier_cli.specs.Checking.{Checks}
 use Rattle.verifier_cli.specs.Listing.{Lists}
 use Rattle.verifier_cli.specs.Replaying.{Replays}
@@ -101,6 +101,8 @@ pub record World (asked : Request) (files : Outside) (outcome : Outcome) (Writes
   pub comes : ComesTo asked files words outcome
   -- no run of the protocol that its bytes spell violates a query that is proved, or whose certificate is accepted
   pub headline : NoneViolated comes.protocol outcome
+  -- what is told as an attack on a query is a run of that protocol, a beginning of which violates the query
+  pub attacks : AttacksViolate comes.protocol outcome
   -- what is written is the outcome's text, in these words where clauses are printed, and with certificates in the format that was asked for
   pub printed : HasText words outcome
   pub written : Writes (outcome_bytes (format_of asked) words outcome)

@@ -172,8 +172,8 @@ pub fn top<F: Files, S: Sink>(alloc: Global, words: &[String], files: &mut F, ou
         F.loads files.new ≡ F.loads files.old }
 
     // They ask for something: there is one list of bytes of each file that is read, by which all that the definitions say
-    // of the request is so: the outcome, the headline, the text that is written, what `check` finds in it, and which
-    // outcomes come where the files are accepted.
+    // of the request is so: the outcome, the headline, that attacks violate their queries, the text that is written, what
+    // `check` finds in it, and which outcomes come where the files are accepted.
     ensures world { (asked : request.Request) → Asks (map string_bytes words.now) asked →
         World asked (outside F.held F.faults F.loads files.old files.new)
         (outcome_of result.outcome) (λ text.

@@ -105,7 +105,7 @@ pub enum Finding {
     Ruled(Ruling),
     /// That it is proved, with no certificate.
     Missing,
-    /// That whether it holds is unknown.
+    /// That whether it holds is unknown, or that there is an attack, which is no proof.
     NotClaimed,
 }
 

@@ -1,11 +1,12 @@
 //! The text of an outcome, and the status that the program ends with.
 
-ghost use Rattle.std.specs.Prelude.{◌≡◌, ◌⊎◌, ◌++◌, codes, decimal, is_none, option_copied, IfOk, OnOk, []};
+ghost use Rattle.std.specs.Prelude.{◌≡◌, ◌⊎◌, ◌++◌, codes, decimal, is_none, option_copied, map, IfOk, OnOk, []};
 ghost use Rattle.std.specs.List.{list_all};
 ghost use Rattle.spec_calculus.specs.Points.{numbered};
 ghost use Rattle.cert_form.specs.Writing.{text_in, format_for};
 ghost use Rattle.verifier_cli.specs.SeenOutcome.{outcome_of, refusal_of};
 ghost use Rattle.pi_model.specs.Errors as errors;
+ghost use Rattle.pi_model.specs.Steps.{step_of};
 ghost use Rattle.cert_checker.specs.declared.ruling.Ruling.TheVariants as ruling;
 ghost use Rattle.verifier_cli.specs.Outcome as own;
 ghost use Rattle.verifier_cli.specs.Seen.{refusal_by, report_refusal_by, run_refusal_by, replay_of};
@@ -13,7 +14,7 @@ ghost use Rattle.pi_tree.specs.Protocols.{protocol_of};
 ghost use Rattle.verifier_cli.specs.Listing.{words_of};
 ghost use Rattle.verifier_cli.specs.Text.{line, clause_lines, in_words, outcome_bytes, status_of, refusal_text, entry_text, verdict_line, verdict_text, verdict_lines, is_proved, first_text, first_lines, done_text, replay_text, is_without_violation};
 ghost use Rattle.verifier_cli.specs.Text.{ruling_text, finding_text, finding_lines, is_accepted};
-ghost use Rattle.verifier_cli.specs.Text.{summary_lines};
+ghost use Rattle.verifier_cli.specs.Text.{summary_lines, step_lines, run_lines};
 
 use crate::codes::StepCode;
 use crate::outcome::{
@@ -24,10 +25,10 @@ use cert_checker::Ruling;
 use cert_form::{Cert, PlainClauses, format_for, put_cert, put_clause};
 use clause_saturate::{PlainEntry, PlainLog};
 use hv_io::put_words;
-use pi_model::StepError;
+use pi_model::{Step, StepError};
 use pi_tree::Protocol;
 use query_verify::{Verdict, Verdicts};
-use run_replay::{Firsts, Replayed};
+use run_replay::{Firsts, Replayed, Steps, put_step};
 use std::alloc::{AllocError, Global};
 
 /// What is written for words that are no command.
@@ -104,7 +105,7 @@ fn put_pair(out: &mut Vec<u8>, solved: usize, unsolved: usize) -> Result<(), All
     put_words(out, format_args!("unknown size pair {solved} {unsolved}\n"))
 }
 
-/// Puts what is written behind the number of a query, on one line: no certificate follows.
+/// Puts what is written behind the number of a query, on one line: no certificate and no run follows.
 pub(crate) fn put_verdict_line(
     out: &mut Vec<u8>,
     protocol: &Protocol,
@@ -122,10 +123,33 @@ pub(crate) fn put_verdict_line(
         Verdict::SizePair(_, solved, unsolved) => put_pair(out, *solved, *unsolved),
         Verdict::SizePoint(point) => put_words(out, format_args!("unknown size point {point}\n")),
         Verdict::Unmet(log, number) => put_unmet(out, protocol, log, *number),
+        Verdict::Attack(_) => out.extend_from_slice(b"attack\n"),
     }
 }
 
-/// Puts what is written behind the number of a query, its line and a certificate.
+/// Puts the steps of a run, each behind `s ` on a line of its own.
+fn put_steps(out: &mut Vec<u8>, steps: &[Step]) -> Result<(), AllocError>
+    ensures { OnOk result (out.new.items ≡
+        out.old.items ++ step_lines (map step_of steps.now)) }
+{
+    'each: for step in steps {
+        out.extend_from_slice(b"s ")?;
+        put_step(out, step)?;
+    }
+    Ok(())
+}
+
+/// Puts what is written behind the number of a query on which there is an attack: its line's end, and the run.
+fn put_attack(out: &mut Vec<u8>, steps: &Steps) -> Result<(), AllocError>
+    ensures { OnOk result (out.new.items ≡
+        out.old.items ++ (line (codes "attack") ++ run_lines steps.now)) }
+{
+    out.extend_from_slice(b"attack\n")?;
+    put_steps(out, &steps.items)?;
+    out.extend_from_slice(b"end\n")
+}
+
+/// Puts what is written behind the number of a query, its line and a certificate or a run.
 fn put_verdict(
     out: &mut Vec<u8>,
     protocol: &Protocol,
@@ -137,6 +161,7 @@ fn put_verdict(
 {
     match verdict {
         Verdict::Proved(cert) => put_proved(out, protocol, cert, format),
+        Verdict::Attack(steps) => put_attack(out, steps),
         _ => put_verdict_line(out, protocol, verdict),
     }
 }

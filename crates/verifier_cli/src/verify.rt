@@ -16,9 +16,10 @@ use crate::outcome::{Decision, Outcome};
 use hv_io::Files;
 use pi_tree::{MOST_BUDGET, Protocol};
 use query_verify::{Verdicts, verdicts};
+use spec_attack_runs::one_answer;
 use spec_protocol_scope::{never_both, one_protocol, one_refusal};
 use spec_read_protocols::queries_of_read_protocols;
-use spec_verdicts::proved_queries_hold;
+use spec_verdicts::{one_verdict, proved_queries_hold};
 use std::alloc::{AllocError, Global};
 use term_store::SharedBank;
 
@@ -65,6 +66,8 @@ pub(crate) fn verify_file<F: Files>(
     never_both();
     queries_of_read_protocols();
     proved_queries_hold();
+    one_verdict();
+    one_answer();
     match load_protocol(alloc, file, files) {
         Err(outcome) => Decision {
             protocol: None,

@@ -11,7 +11,7 @@ use Rattle.spec_terms.specs.Term.{Term}
 use Rattle.term_tree.specs.Bank.{Grows}
 use Rattle.term_tree.proofs.BankLaws.{Grows_refl, Grows_trans, take-grows, Grows-length}
 use Rattle.spec_calculus.specs.Syntax.{Ruled}
-use Rattle.spec_translation.specs.Visit.{Visit, is_large_visit, after_new, after_phase}
+use Rattle.spec_translation.specs.Visit.{Visit, is_large_visit, after_input, after_copy, after_new, event_terms, after_event, after_phase}
 use Rattle.spec_translation.specs.Choice.{EachGoesOn}
 use Rattle.spec_translation.specs.Otherwise.{otherwise_visit}
 use Rattle.spec_choice_walks.specs.Instructions.{completions, choices_by}
@@ -24,7 +24,7 @@ use Rattle.process_visits.specs.Processes.{output_form, input_form, parallel_for
 use Rattle.process_visits.specs.Short.{IsFitProcess}
 use Rattle.process_visits.specs.Visits.{visit_at, NamesVisit}
 use Rattle.process_visits.specs.Forms.{is_large_output, is_large_insert, Receives, IsLargeInput, EventAdds}
-use Rattle.process_visits.specs.Walks.{choices_of}
+use Rattle.process_visits.specs.Walks.{instructions_of, choices_of}
 use Rattle.clause_translate.specs.Jobs.{Once, Uncounted, Each, Ends, AreSmallWays, IsKnownWay, EndsEach}
 use Rattle.process_visits.proofs.Named.{if_ok, visit_later}
 use Rattle.process_visits.proofs.Passing.{choices_counted}
@@ -36,6 +36,14 @@ use Rattle.clause_translate.proofs.FewPoints.{next_fit, next_few, next_point, le
 use Rattle.clause_translate.proofs.Visiting.{none_left, nil_ends, spelled, counted_ok, ends_back, moved, moved_each, output_ends, event_ends, input_ends, copies_ends, new_ends, parallel_ends, let_ends, else_ends, next_large, output_large, event_large, input_large, new_large, left_large, let_large, choice_large, phase_ends, insert_large, insert_ends, get_large, entry_large, entry_next_large, get_ends}
 use Rattle.clause_translate.proofs.LetVisits.{few_left, completed_by, choosing_known, small_let, small_later, choosing_later, passes_as, passed_within}
 use Rattle.clause_translate.proofs.Repeating.{none_visited, passed_small, more_visited, large_visited, all_visited, nowhere_of, nowhere_ends, visit_ends}
+use Rattle.spec_calculus.specs.Points.{point_after}
+use Rattle.spec_clauses.specs.Fact.{Ev}
+use Rattle.spec_attack_runs.specs.Source as attack
+use Rattle.clause_sources.specs.Seen.{choice_of}
+use Rattle.process_visits.specs.Telling.{TellsVisit}
+use Rattle.clause_translate.specs.Gathering.{Tells, TellsBelow, TellsWay, TellsEach}
+use Rattle.clause_translate.proofs.Gathering.{tells_moved, counted_tells, nil_tells, output_tells, event_tells, insert_tells, input_tells, copies_tell, new_tells, spelled_tells, phase_tells, parallel_tells, below_tells, else_told, below_moved, way_moved, nothing_way, let_tells, get_tells, ends_between}
+use Rattle.clause_translate.proofs.Repeated.{gathered_way, none_told, more_told, all_told, nothing_chosen}
 use Rattle.clause_translate.proofs.visits.+visits.Goals as goal
 use Rattle.clause_form.specs.Seen.{IdClause}
 
@@ -185,7 +193,7 @@ pub visit_process-returns-clause-ends : goal.visit_process-returns-clause-ends
 visit_process-returns-clause-ends g t c =
     let P = protocol_at c.args.place.now in
     let v = visit_at (g.B.Bank.trees c.args.bank.now) c.args.visit.now in
-    let low : Listing = record { clauses = c.args.listing.now.clauses; left = c.args.listing.now.left - 1; keeps = c.args.listing.now.keeps } in
+    let low : Listing = record { clauses = c.args.listing.now.clauses; left = c.args.listing.now.left - 1; keeps = c.args.listing.now.keeps; choices = c.args.listing.now.choices; sources = c.args.listing.now.sources } in
     let less : c.args.listing.now.left ≡ suc low.left = omega (arith, c.if-listing-eq0.false) in
     counted_ok c.visit_counted.result P (process_of c.args.process.now) c.args.place.now.point v (g.B.Bank.trees c.visit_counted.new.bank) c.args.listing.now low c.visit_counted.new.listing refl refl less c.visit_counted.ensures.ends
 
@@ -549,7 +557,7 @@ visit_let-visit_chosen-requires g t c κs within =
               (c.count_choices-count.ensures ∙ ap (λ l. choices_by P (map instruction_of l)) (c.deref.ensures.value ∙ sym c.deref-2.ensures.value)),
           (
             (e, small_let mid _ e listed looked.going (small_later old mid _ looked c.in_ok-looked.ensures.back c.if-looked.false c.in_ok-looked.ensures.looked)),
-            (c.requires.fit.2, (left_within point (let_form choice) next otherwise refl c.requires.points, c.requires.copies)),
+            (omega (arith, c.count_choices-count.ensures, few_left P (map instruction_of c.deref.result.now) e (ap (map instruction_of) c.deref.ensures.value ∙ c.in_ok-instructions.ensures) c.requires.fit.1), (c.requires.fit.2, (left_within point (let_form choice) next otherwise refl c.requires.points, c.requires.copies))),
           ),
         ),
       ),
@@ -591,8 +599,8 @@ visit_let-else_visit-requires g t c =
     choosing_known end _ e listed later.known (omega (arith, c.requires.copies, left_point c.args.place.now.point (let_form choice) (process_of choice.next.now) (process_of choice.otherwise.now) refl c.requires.points)) c.requires.fit.1
     (c.count_choices-count.ensures ∙ ap (λ l. choices_by P (map instruction_of l)) (c.deref.ensures.value ∙ sym c.deref-2.ensures.value))
 
-pub visit_let-visit_process-requires : goal.visit_let-visit_process-requires
-visit_let-visit_process-requires g t c κs within =
+pub visit_let-visit_branch-requires : goal.visit_let-visit_branch-requires
+visit_let-visit_branch-requires g t c κs within =
     let w = c.args.visit.now in
     let choice = c.args.choice.now in
     let next = process_of choice.next.now in
@@ -613,7 +621,7 @@ visit_let-returns-clause-ends g t c =
     let mid = g.B.Bank.trees c.look_at_choices.new.bank in
     let end = g.B.Bank.trees c.visit_chosen.new.bank in
     let told = g.B.Bank.trees c.else_visit.new.bank in
-    let new = g.B.Bank.trees c.visit_process.new.bank in
+    let new = g.B.Bank.trees c.visit_branch.new.bank in
     let pattern = pattern_of choice.pattern.now in
     let next = process_of choice.next.now in
     let otherwise = process_of choice.otherwise.now in
@@ -623,7 +631,7 @@ visit_let-returns-clause-ends g t c =
     let rs = completions P all [] in
     let before = c.args.listing.now in
     let midway = c.visit_chosen.new.listing in
-    let after = c.visit_process.new.listing in
+    let after = c.visit_branch.new.listing in
     let made = c.in_ok-made-in-None.made in
     let ends = subst (λ (o : Option ℕ). EndsEach P (visit_at mid w) pattern rs next (point + 1) end before midway o) c.in-None.is c.in_ok-point.ensures.ends in
     let first = subst (λ (x : Visit). EndsEach P x pattern rs next (point + 1) end before midway None) (visit_later old mid w c.look_at_choices.ensures.grows c.requires.visit).is ends in
@@ -631,9 +639,9 @@ visit_let-returns-clause-ends g t c =
     let besides = otherwise_visit P v pattern e in
     let named : (otherwise ≡ calculus.Nil → ⊥) → visit_at told made ≡ besides =
     λ some. (c.in_ok-made-in-None.ensures.names e (completed_by P all e listed) some).is ∙ ap (λ (x : Visit). otherwise_visit P x pattern e) later.is in
-    let here = else_ends c.visit_process.result (protocol_at to) otherwise to.point (visit_at told made) besides new midway after named c.visit_process.ensures.ends in
+    let here = else_ends c.visit_branch.result (protocol_at to) otherwise to.point (visit_at told made) besides new midway after named c.visit_branch.ensures.ends in
     let_ends P v pattern e next otherwise point rs (completed_by P all e listed) (sym c.is_large_let.ensures ∙ c.if-is_large_let.false)
-    c.visit_process.result to besides end new before midway after c.after-after.ensures refl (Grows_trans end told new c.else_visit.ensures.grows c.visit_process.ensures.grows) first here
+    c.visit_branch.result to besides end new before midway after c.after-after.ensures refl (Grows_trans end told new c.else_visit.ensures.grows c.visit_branch.ensures.grows) first here
 
 -- those of a process that does nothing are counted
 pub visit_chosen-below-below-requires : goal.visit_chosen-below-below-requires
@@ -658,22 +666,25 @@ visit_chosen-visit_choices-requires g t c κs within =
     let process = process_of c.args.process.now in
     let below = c.below-below.result in
     let small = c.requires.small in
-    (omega (arith, c.decreases), (within, (c.requires.known, ((small.0, c.args.going, small.1), (c.below-below.ensures, (next_fit process below c.below-below.ensures c.requires.fit, (at_point (c.args.choosing.now.place.now.point + 1) process below c.below-below.ensures c.requires.points, c.requires.copies)))))))
+    (omega (arith, c.decreases), (within, (c.requires.known, ((small.0, c.args.going, small.1), (c.requires.few, (c.below-below.ensures, (next_fit process below c.below-below.ensures c.requires.fit, (at_point (c.args.choosing.now.place.now.point + 1) process below c.below-below.ensures c.requires.points, c.requires.copies))))))))
 
 -- the choices of a `let`
 pub visit_choices-each-init : goal.visit_choices-each-init
 visit_choices-each-init g t c =
     let choosing = c.args.choosing.now in
     let old = g.B.Bank.trees c.args.bank.now in
-    none_visited (protocol_at choosing.place.now) (visit_at old choosing.visit.now) (pattern_of choosing.pattern.now) (choices_of choosing) (process_of c.args.process.now) (choosing.place.now.point + 1) old c.args.listing.now
+    record {
+      visited = none_visited (protocol_at choosing.place.now) (visit_at old choosing.visit.now) (pattern_of choosing.pattern.now) (choices_of choosing) (process_of c.args.process.now) (choosing.place.now.point + 1) old c.args.listing.now;
+      told = λ e is. none_told (protocol_at choosing.place.now) (visit_at old choosing.visit.now) (pattern_of choosing.pattern.now) e (process_of c.args.process.now) (choosing.place.now.point + 1) c.args.listing.now;
+    }
 
 pub visit_choices-choices_from-requires-clause-known : goal.visit_choices-choices_from-requires-clause-known
-visit_choices-choices_from-requires-clause-known g t c = choosing_later (g.B.Bank.trees c.args.bank.now) (g.B.Bank.trees c.each.bank) c.args.choosing.now c.each.invariant.grows c.requires.known
+visit_choices-choices_from-requires-clause-known g t c = choosing_later (g.B.Bank.trees c.args.bank.now) (g.B.Bank.trees c.each.bank) c.args.choosing.now c.each.invariant.visited.grows c.requires.known
 
 pub visit_choices-overflow_add-number : goal.visit_choices-overflow_add-number
 visit_choices-overflow_add-number g t c =
     let old = g.B.Bank.trees c.args.bank.now in
-    omega (arith, passed_within old (g.B.Bank.trees c.each.bank) (g.B.Bank.trees c.choices_from.new.bank) c.args.choosing.now c.each.number c.in_ok-passed.passed c.each.invariant.grows c.requires.known c.each-test.true c.in_ok-passed.ensures.passes)
+    omega (arith, passed_within old (g.B.Bank.trees c.each.bank) (g.B.Bank.trees c.choices_from.new.bank) c.args.choosing.now c.each.number c.in_ok-passed.passed c.each.invariant.visited.grows c.requires.known c.each-test.true c.in_ok-passed.ensures.passes)
 
 pub visit_choices-visit_way-requires : goal.visit_choices-visit_way-requires
 visit_choices-visit_way-requires g t c κs within =
@@ -681,7 +692,7 @@ visit_choices-visit_way-requires g t c κs within =
     let mid = g.B.Bank.trees c.choices_from.new.bank in
     let choosing = c.args.choosing.now in
     let passed = c.in_ok-passed.passed in
-    let passes = passes_as old (g.B.Bank.trees c.each.bank) mid choosing c.each.number passed c.each.invariant.grows c.requires.known c.in_ok-passed.ensures.passes in (
+    let passes = passes_as old (g.B.Bank.trees c.each.bank) mid choosing c.each.number passed c.each.invariant.visited.grows c.requires.known c.in_ok-passed.ensures.passes in (
       omega (arith, c.decreases),
       (
         within,
@@ -709,12 +720,20 @@ visit_choices-each-preserved g t c =
     let passed = c.in_ok-passed.passed in
     let after = c.visit_way.new.listing in
     let from_now = Grows_trans now mid next c.choices_from.ensures.grows c.visit_way.ensures.grows in
-    let from_old = Grows_trans old now next c.each.invariant.grows from_now in
-    let passes = passes_as old now mid choosing c.each.number passed c.each.invariant.grows c.requires.known c.in_ok-passed.ensures.passes in
-    let small = passed_small P v pattern rs sl.0 sl.2.are sl.2.small.outs sl.2.small.go sl.2.small.large process point old c.args.listing.now now c.each.listing c.each.number c.each.invariant mid next passed passes from_now from_old after in
-    more_visited P v pattern rs sl.0 sl.2.are sl.2.small.outs sl.2.small.go sl.2.small.large process point old c.args.listing.now now c.each.listing c.each.number c.each.invariant mid next passed passes from_now from_old after
-    (moved_each P point c.args.place.now passes.outs process next c.each.listing after None c.requires.at
-    (subst (λ (o : Option ℕ). Ends (protocol_at c.args.place.now) (Each process c.args.place.now.point passes.outs) next c.each.listing after o) c.in-None.is (c.in_ok-point.ensures.ends passes.outs small)))
+    let from_old = Grows_trans old now next c.each.invariant.visited.grows from_now in
+    let passes = passes_as old now mid choosing c.each.number passed c.each.invariant.visited.grows c.requires.known c.in_ok-passed.ensures.passes in
+    let small = passed_small P v pattern rs sl.0 sl.2.are sl.2.small.outs sl.2.small.go sl.2.small.large process point old c.args.listing.now now c.each.listing c.each.number c.each.invariant.visited mid next passed passes from_now from_old after in
+    record {
+      visited = more_visited P v pattern rs sl.0 sl.2.are sl.2.small.outs sl.2.small.go sl.2.small.large process point old c.args.listing.now now c.each.listing c.each.number c.each.invariant.visited mid next passed passes from_now from_old after
+          (moved_each P point c.args.place.now passes.outs process next c.each.listing after None c.requires.at
+          (subst (λ (o : Option ℕ). Ends (protocol_at c.args.place.now) (Each process c.args.place.now.point passes.outs) next c.each.listing after o) c.in-None.is (c.in_ok-point.ensures.ends passes.outs small)));
+      told = λ e is.
+          let are = completed_by P (instructions_of choosing) e is in
+          more_told P v pattern e process point c.args.listing.now c.each.listing c.each.number (c.each.invariant.told e is) mid passed.way c.in_ok-label.label passed.count passes.outs after
+          (subst (λ (l : List Ruled). EachGoesOn P v pattern (take passed.count (drop c.each.number l)) passes.outs) are passes.go) small (c.in_ok-label.ensures e is)
+          (way_moved P point c.args.place.now process mid c.in_ok-label.label passed.way c.each.listing after c.requires.at
+          (subst (λ (o : Option ℕ). TellsWay (protocol_at c.args.place.now) process c.args.place.now.point mid c.in_ok-label.label passed.way c.each.listing after o) c.in-None.is c.in_ok-point.ensures.tells));
+    }
 
 pub visit_choices-each-preserved-in-None : goal.visit_choices-each-preserved-in-None
 visit_choices-each-preserved-in-None g t c =
@@ -733,12 +752,20 @@ visit_choices-each-preserved-in-None g t c =
     let passed = c.in_ok-passed.passed in
     let after = c.visit_way.new.listing in
     let from_now = Grows_trans now mid next c.choices_from.ensures.grows c.visit_way.ensures.grows in
-    let from_old = Grows_trans old now next c.each.invariant.grows from_now in
-    let passes = passes_as old now mid choosing c.each.number passed c.each.invariant.grows c.requires.known c.in_ok-passed.ensures.passes in
-    let small = passed_small P v pattern rs sl.0 sl.2.are sl.2.small.outs sl.2.small.go sl.2.small.large process point old c.args.listing.now now c.each.listing c.each.number c.each.invariant mid next passed passes from_now from_old after in
-    more_visited P v pattern rs sl.0 sl.2.are sl.2.small.outs sl.2.small.go sl.2.small.large process point old c.args.listing.now now c.each.listing c.each.number c.each.invariant mid next passed passes from_now from_old after
-    (moved_each P point c.args.place.now passes.outs process next c.each.listing after None c.requires.at
-    (subst (λ (o : Option ℕ). Ends (protocol_at c.args.place.now) (Each process c.args.place.now.point passes.outs) next c.each.listing after o) c.in-None.is (c.in_ok-point.ensures.ends passes.outs small)))
+    let from_old = Grows_trans old now next c.each.invariant.visited.grows from_now in
+    let passes = passes_as old now mid choosing c.each.number passed c.each.invariant.visited.grows c.requires.known c.in_ok-passed.ensures.passes in
+    let small = passed_small P v pattern rs sl.0 sl.2.are sl.2.small.outs sl.2.small.go sl.2.small.large process point old c.args.listing.now now c.each.listing c.each.number c.each.invariant.visited mid next passed passes from_now from_old after in
+    record {
+      visited = more_visited P v pattern rs sl.0 sl.2.are sl.2.small.outs sl.2.small.go sl.2.small.large process point old c.args.listing.now now c.each.listing c.each.number c.each.invariant.visited mid next passed passes from_now from_old after
+          (moved_each P point c.args.place.now passes.outs process next c.each.listing after None c.requires.at
+          (subst (λ (o : Option ℕ). Ends (protocol_at c.args.place.now) (Each process c.args.place.now.point passes.outs) next c.each.listing after o) c.in-None.is (c.in_ok-point.ensures.ends passes.outs small)));
+      told = λ e is.
+          let are = completed_by P (instructions_of choosing) e is in
+          more_told P v pattern e process point c.args.listing.now c.each.listing c.each.number (c.each.invariant.told e is) mid passed.way c.in_ok-label.label passed.count passes.outs after
+          (subst (λ (l : List Ruled). EachGoesOn P v pattern (take passed.count (drop c.each.number l)) passes.outs) are passes.go) small (c.in_ok-label.ensures e is)
+          (way_moved P point c.args.place.now process mid c.in_ok-label.label passed.way c.each.listing after c.requires.at
+          (subst (λ (o : Option ℕ). TellsWay (protocol_at c.args.place.now) process c.args.place.now.point mid c.in_ok-label.label passed.way c.each.listing after o) c.in-None.is c.in_ok-point.ensures.tells));
+    }
 
 pub visit_choices-returns-in-Some-clause-ends : goal.visit_choices-returns-in-Some-clause-ends
 visit_choices-returns-in-Some-clause-ends g t c =
@@ -757,10 +784,10 @@ visit_choices-returns-in-Some-clause-ends g t c =
     let passed = c.in_ok-passed.passed in
     let after = c.visit_way.new.listing in
     let from_now = Grows_trans now mid next c.choices_from.ensures.grows c.visit_way.ensures.grows in
-    let from_old = Grows_trans old now next c.each.invariant.grows from_now in
-    let passes = passes_as old now mid choosing c.each.number passed c.each.invariant.grows c.requires.known c.in_ok-passed.ensures.passes in
-    let small = passed_small P v pattern rs sl.0 sl.2.are sl.2.small.outs sl.2.small.go sl.2.small.large process point old c.args.listing.now now c.each.listing c.each.number c.each.invariant mid next passed passes from_now from_old after in
-    large_visited P v pattern rs sl.0 sl.2.are sl.2.small.outs sl.2.small.go sl.2.small.large process point old c.args.listing.now now c.each.listing c.each.number c.each.invariant mid next passed passes from_now from_old after c.in-Some.point
+    let from_old = Grows_trans old now next c.each.invariant.visited.grows from_now in
+    let passes = passes_as old now mid choosing c.each.number passed c.each.invariant.visited.grows c.requires.known c.in_ok-passed.ensures.passes in
+    let small = passed_small P v pattern rs sl.0 sl.2.are sl.2.small.outs sl.2.small.go sl.2.small.large process point old c.args.listing.now now c.each.listing c.each.number c.each.invariant.visited mid next passed passes from_now from_old after in
+    large_visited P v pattern rs sl.0 sl.2.are sl.2.small.outs sl.2.small.go sl.2.small.large process point old c.args.listing.now now c.each.listing c.each.number c.each.invariant.visited mid next passed passes from_now from_old after c.in-Some.point
     (moved_each P point c.args.place.now passes.outs process next c.each.listing after (Some c.in-Some.point) c.requires.at
     (subst (λ (o : Option ℕ). Ends (protocol_at c.args.place.now) (Each process c.args.place.now.point passes.outs) next c.each.listing after o) c.in-Some.is (c.in_ok-point.ensures.ends passes.outs small)))
 
@@ -770,31 +797,31 @@ visit_choices-returns-clause-ends g t c =
     let choosing = c.args.choosing.now in
     let sl = c.requires.small in
     all_visited (protocol_at choosing.place.now) (visit_at old choosing.visit.now) (pattern_of choosing.pattern.now) (choices_of choosing) sl.0 sl.2.are sl.2.small.outs sl.2.small.go sl.2.small.large (process_of c.args.process.now) (choosing.place.now.point + 1) old c.args.listing.now
-    (g.B.Bank.trees c.each.bank) c.each.listing c.each.number c.each.invariant (omega (arith, choices_counted old choosing c.requires.known, c.each-test.false))
+    (g.B.Bank.trees c.each.bank) c.each.listing c.each.number c.each.invariant.visited (omega (arith, choices_counted old choosing c.requires.known, c.each-test.false))
 
-pub visit_way-visit_process-requires : goal.visit_way-visit_process-requires
-visit_way-visit_process-requires g t c κs within =
+pub visit_way-visit_branch-requires : goal.visit_way-visit_branch-requires
+visit_way-visit_branch-requires g t c κs within =
     let known = subst (λ (x : Way). IsKnownWay (g.B.Bank.trees c.args.bank.now) c.args.place.now.point x) c.in-Visit.is c.requires.known in
     (omega (arith, c.decreases), (within, (known.0, (c.requires.fit, (c.requires.points, known.1)))))
 
 pub visit_way-returns-in-Visit-clause-ends : goal.visit_way-returns-in-Visit-clause-ends
 visit_way-returns-in-Visit-clause-ends g t c =
     let old = g.B.Bank.trees c.args.bank.now in
-    let new = g.B.Bank.trees c.visit_process.new.bank in
+    let new = g.B.Bank.trees c.visit_branch.new.bank in
     let P = protocol_at c.args.place.now in
     let process = process_of c.args.process.now in
     let point = c.args.place.now.point in
     let before = c.args.listing.now in
-    let after = c.visit_process.new.listing in
+    let after = c.visit_branch.new.listing in
     let w = visit_at old c.in-Visit.made in
-    if_ok c.visit_process.result (λ (large : Option ℕ). Ends P (Once process point w) new before after large) (λ (large : Option ℕ). (outs : List (Option Visit)) → AreSmallWays old c.args.way.now outs → Ends P (Each process point outs) new before after large)
-    (λ large h. λ outs small. visit_ends P process point w outs new before after large (subst (λ (x : Way). AreSmallWays old x outs) c.in-Visit.is small) h) c.visit_process.ensures.ends
+    if_ok c.visit_branch.result (λ (large : Option ℕ). Ends P (Once process point w) new before after large) (λ (large : Option ℕ). (outs : List (Option Visit)) → AreSmallWays old c.args.taken.way.now outs → Ends P (Each process point outs) new before after large)
+    (λ large h. λ outs small. visit_ends P process point w outs new before after large (subst (λ (x : Way). AreSmallWays old x outs) c.in-Visit.is small) h) c.visit_branch.ensures.ends
 
 pub visit_way-returns-in-Nowhere-clause-ends : goal.visit_way-returns-in-Nowhere-clause-ends
 visit_way-returns-in-Nowhere-clause-ends g t c =
     let old = g.B.Bank.trees c.args.bank.now in
     λ outs small.
-    nowhere_ends (protocol_at c.args.place.now) (process_of c.args.process.now) c.args.place.now.point old outs c.args.listing.now (nowhere_of old c.args.way.now outs c.in-Nowhere.is small)
+    nowhere_ends (protocol_at c.args.place.now) (process_of c.args.process.now) c.args.place.now.point old outs c.args.listing.now (nowhere_of old c.args.taken.way.now outs c.in-Nowhere.is small)
 
 -- the bank grows, and fewer choices are left
 pub visit_let-returns-in_err-instructions-clause-grows : goal.visit_let-returns-in_err-instructions-clause-grows
@@ -818,7 +845,7 @@ visit_let-returns-clause-grows g t c =
     let mid = g.B.Bank.trees c.look_at_choices.new.bank in
     let end = g.B.Bank.trees c.visit_chosen.new.bank in
     let told = g.B.Bank.trees c.else_visit.new.bank in
-    Grows_trans old end (g.B.Bank.trees c.visit_process.new.bank) (Grows_trans old mid end c.look_at_choices.ensures.grows c.visit_chosen.ensures.grows) (Grows_trans end told (g.B.Bank.trees c.visit_process.new.bank) c.else_visit.ensures.grows c.visit_process.ensures.grows)
+    Grows_trans old end (g.B.Bank.trees c.visit_branch.new.bank) (Grows_trans old mid end c.look_at_choices.ensures.grows c.visit_chosen.ensures.grows) (Grows_trans end told (g.B.Bank.trees c.visit_branch.new.bank) c.else_visit.ensures.grows c.visit_branch.ensures.grows)
 
 pub visit_let-returns-in_err-made-in-None-clause-grows : goal.visit_let-returns-in_err-made-in-None-clause-grows
 visit_let-returns-in_err-made-in-None-clause-grows g t c =
@@ -837,24 +864,24 @@ pub visit_choices-each-smaller-in-None : goal.visit_choices-each-smaller-in-None
 visit_choices-each-smaller-in-None g t c = omega (arith, c.each-test.true, c.in_ok-passed.ensures.passes.some)
 
 pub visit_choices-returns-in_err-passed-clause-grows : goal.visit_choices-returns-in_err-passed-clause-grows
-visit_choices-returns-in_err-passed-clause-grows g t c = Grows_trans (g.B.Bank.trees c.args.bank.now) (g.B.Bank.trees c.each.bank) (g.B.Bank.trees c.choices_from.new.bank) c.each.invariant.grows c.choices_from.ensures.grows
+visit_choices-returns-in_err-passed-clause-grows g t c = Grows_trans (g.B.Bank.trees c.args.bank.now) (g.B.Bank.trees c.each.bank) (g.B.Bank.trees c.choices_from.new.bank) c.each.invariant.visited.grows c.choices_from.ensures.grows
 
 pub visit_choices-returns-in_err-point-clause-grows : goal.visit_choices-returns-in_err-point-clause-grows
 visit_choices-returns-in_err-point-clause-grows g t c =
     let now = g.B.Bank.trees c.each.bank in
     let mid = g.B.Bank.trees c.choices_from.new.bank in
     let next = g.B.Bank.trees c.visit_way.new.bank in
-    Grows_trans (g.B.Bank.trees c.args.bank.now) now next c.each.invariant.grows (Grows_trans now mid next c.choices_from.ensures.grows c.visit_way.ensures.grows)
+    Grows_trans (g.B.Bank.trees c.args.bank.now) now next c.each.invariant.visited.grows (Grows_trans now mid next c.choices_from.ensures.grows c.visit_way.ensures.grows)
 
 pub visit_choices-returns-in-Some-clause-grows : goal.visit_choices-returns-in-Some-clause-grows
 visit_choices-returns-in-Some-clause-grows g t c =
     let now = g.B.Bank.trees c.each.bank in
     let mid = g.B.Bank.trees c.choices_from.new.bank in
     let next = g.B.Bank.trees c.visit_way.new.bank in
-    Grows_trans (g.B.Bank.trees c.args.bank.now) now next c.each.invariant.grows (Grows_trans now mid next c.choices_from.ensures.grows c.visit_way.ensures.grows)
+    Grows_trans (g.B.Bank.trees c.args.bank.now) now next c.each.invariant.visited.grows (Grows_trans now mid next c.choices_from.ensures.grows c.visit_way.ensures.grows)
 
 pub visit_choices-returns-clause-grows : goal.visit_choices-returns-clause-grows
-visit_choices-returns-clause-grows g t c = c.each.invariant.grows
+visit_choices-returns-clause-grows g t c = c.each.invariant.visited.grows
 
 -- waits for a phase, `insert`s and `get`s
 pub visit_form-visit_phase-requires : goal.visit_form-visit_phase-requires
@@ -1049,8 +1076,8 @@ visit_get-returns-in-Some-clause-ends g t c =
     entry_next_large P v get.table get.patterns.now (condition_of get.condition.now) next (process_of get.otherwise.now) point goes.large goes.out (sym c.some_large_compared_in.ensures ∙ c.if-some_large_compared_in.false) goes.goes small.is end before after c.in-Some.point
     (moved_each P (point + 1) c.below-below.result (goes.out ∷ []) next end before after (Some c.in-Some.point) c.below-below.ensures ends)
 
-pub visit_get-visit_process-requires : goal.visit_get-visit_process-requires
-visit_get-visit_process-requires g t c κs within =
+pub visit_get-visit_branch-requires : goal.visit_get-visit_branch-requires
+visit_get-visit_branch-requires g t c κs within =
     let old = g.B.Bank.trees c.args.bank.now in
     let mid = g.B.Bank.trees c.entry_way.new.bank in
     let end = g.B.Bank.trees c.visit_way.new.bank in
@@ -1080,11 +1107,435 @@ visit_get-returns-clause-ends g t c =
     let done = moved_each P (point + 1) c.below-below.result (goes.out ∷ []) next end before midway None c.below-below.ensures ends in
     let later = visit_later old end w (Grows_trans old mid end c.entry_way.ensures.grows c.visit_way.ensures.grows) c.requires.visit in
     get_ends P v get.table get.patterns.now (condition_of get.condition.now) next (process_of get.otherwise.now) point goes.large goes.out (sym c.some_large_compared_in.ensures ∙ c.if-some_large_compared_in.false) goes.goes small.is
-    c.visit_process.result c.after-after.result (visit_at end w) end (g.B.Bank.trees c.visit_process.new.bank) before midway c.visit_process.new.listing c.after-after.ensures later.is c.visit_process.ensures.grows done c.visit_process.ensures.ends
+    c.visit_branch.result c.after-after.result (visit_at end w) end (g.B.Bank.trees c.visit_branch.new.bank) before midway c.visit_branch.new.listing c.after-after.ensures later.is c.visit_branch.ensures.grows done c.visit_branch.ensures.ends
 
 pub visit_get-returns-clause-grows : goal.visit_get-returns-clause-grows
 visit_get-returns-clause-grows g t c =
     let old = g.B.Bank.trees c.args.bank.now in
     let mid = g.B.Bank.trees c.entry_way.new.bank in
     let end = g.B.Bank.trees c.visit_way.new.bank in
-    Grows_trans old end (g.B.Bank.trees c.visit_process.new.bank) (Grows_trans old mid end c.entry_way.ensures.grows c.visit_way.ensures.grows) c.visit_process.ensures.grows
+    Grows_trans old end (g.B.Bank.trees c.visit_branch.new.bank) (Grows_trans old mid end c.entry_way.ensures.grows c.visit_way.ensures.grows) c.visit_branch.ensures.grows
+
+-- a branch
+pub visit_branch-visit_process-requires : goal.visit_branch-visit_process-requires
+visit_branch-visit_process-requires g t c κs within = (omega (arith, c.decreases), (within, (c.requires.visit, (c.requires.fit, (c.requires.points, c.requires.copies)))))
+
+pub visit_branch-returns-clause-ends : goal.visit_branch-returns-clause-ends
+visit_branch-returns-clause-ends g t c =
+    let old = g.B.Bank.trees c.args.bank.now in
+    let chosen = c.in_ok-choose.ensures in
+    let left = c.leave.ensures in
+    ends_between (protocol_at c.args.place.now) (Once (process_of c.args.process.now) c.args.place.now.point (visit_at old c.args.branch.visit.now)) (g.B.Bank.trees c.visit_process.new.bank) c.args.listing.now c.choose.new.self c.visit_process.new.listing c.leave.new.self c.in_ok-large.large
+    (ap (λ (l : Listing). l.left) chosen) (ap (λ (l : Listing). l.clauses) chosen) (ap (λ (l : Listing). l.keeps) chosen) left.left left.clauses left.keeps c.in_ok-large.ensures.ends
+
+pub visit_branch-returns-clause-tells : goal.visit_branch-returns-clause-tells
+visit_branch-returns-clause-tells g t c =
+    let old = g.B.Bank.trees c.args.bank.now in
+    let chosen = c.in_ok-choose.ensures in
+    let left = c.leave.ensures in
+    let choice = choice_of c.args.branch.choice in
+    below_tells (protocol_at c.args.place.now) (process_of c.args.process.now) c.args.place.now.point (visit_at old c.args.branch.visit.now) choice c.args.listing.now c.choose.new.self c.visit_process.new.listing c.leave.new.self c.in_ok-large.large
+    (ap (λ (l : Listing). l.sources) chosen) (ap (λ (l : Listing). l.choices) chosen) left.sources (left.choices c.args.listing.now.choices choice) c.in_ok-large.ensures.tells
+
+pub visit_branch-returns-clause-grows : goal.visit_branch-returns-clause-grows
+visit_branch-returns-clause-grows g t c = c.visit_process.ensures.grows
+
+pub visit_branch-returns-in_err-large-clause-grows : goal.visit_branch-returns-in_err-large-clause-grows
+visit_branch-returns-in_err-large-clause-grows g t c = c.visit_process.ensures.grows
+
+pub visit_branch-returns-in_err-choose-clause-grows : goal.visit_branch-returns-in_err-choose-clause-grows
+visit_branch-returns-in_err-choose-clause-grows g t c = Grows_refl (g.B.Bank.trees c.args.bank.now)
+
+-- the labels of choices
+pub visit_choices-label_at-requires : goal.visit_choices-label_at-requires
+visit_choices-label_at-requires g t c = record { count = record { is = c.requires.known.count; few = c.requires.few }; within = c.each-test.true }
+
+-- what is told of sources
+pub visit_process-returns-clause-tells : goal.visit_process-returns-clause-tells
+visit_process-returns-clause-tells g t c =
+    let P = protocol_at c.args.place.now in
+    let v = visit_at (g.B.Bank.trees c.args.bank.now) c.args.visit.now in
+    let process = process_of c.args.process.now in
+    let point = c.args.place.now.point in
+    let before = c.args.listing.now in
+    let after = c.visit_counted.new.listing in
+    let low : Listing = record { clauses = before.clauses; left = before.left - 1; keeps = before.keeps; choices = before.choices; sources = before.sources } in
+    if_ok c.visit_counted.result (λ (large : Option ℕ). Tells P process point v low after large) (λ (large : Option ℕ). Tells P process point v before after large)
+    (λ large h. counted_tells P process point v before low after large refl refl h) c.visit_counted.ensures.tells
+
+pub visit_counted-returns-clause-tells : goal.visit_counted-returns-clause-tells
+visit_counted-returns-clause-tells g t c = c.in_ok-large.ensures.tells
+
+pub visit_counted-returns-then-count-clause-tells : goal.visit_counted-returns-then-count-clause-tells
+visit_counted-returns-then-count-clause-tells g t c = c.in_ok-large.ensures.tells
+
+pub visit_form-returns-in-Output-clause-tells : goal.visit_form-returns-in-Output-clause-tells
+visit_form-returns-in-Output-clause-tells g t c =
+    let P = protocol_at c.args.place.now in
+    let v = visit_at (g.B.Bank.trees c.args.bank.now) c.args.visit.now in
+    let same : process_of c.args.process.now ≡ calculus.Output (term_of c.in-Output.channel) (term_of c.in-Output.message) (process_of c.deref.result.now) = ap process_of c.in-Output.is ∙ ap (λ (x : Process). calculus.Output (term_of c.in-Output.channel) (term_of c.in-Output.message) (process_of x)) (sym c.deref.ensures) in
+    subst (λ (p : calculus.Process). IfOk c.visit_output.result (λ large. Tells P p c.args.place.now.point v c.args.listing.now c.visit_output.new.listing large)) (sym same)
+    c.visit_output.ensures.tells
+
+pub visit_form-returns-in-Input-clause-tells : goal.visit_form-returns-in-Input-clause-tells
+visit_form-returns-in-Input-clause-tells g t c =
+    let P = protocol_at c.args.place.now in
+    let v = visit_at (g.B.Bank.trees c.args.bank.now) c.args.visit.now in
+    let same : process_of c.args.process.now ≡ calculus.Input (term_of c.in-Input.channel) (pattern_of c.in-Input.pattern) (process_of c.deref-in-Input.result.now) = ap process_of c.in-Input.is ∙ ap (λ (x : Process). calculus.Input (term_of c.in-Input.channel) (pattern_of c.in-Input.pattern) (process_of x)) (sym c.deref-in-Input.ensures) in
+    subst (λ (p : calculus.Process). IfOk c.visit_input.result (λ large. Tells P p c.args.place.now.point v c.args.listing.now c.visit_input.new.listing large)) (sym same)
+    c.visit_input.ensures.tells
+
+pub visit_form-returns-in-Par-clause-tells : goal.visit_form-returns-in-Par-clause-tells
+visit_form-returns-in-Par-clause-tells g t c =
+    let P = protocol_at c.args.place.now in
+    let v = visit_at (g.B.Bank.trees c.args.bank.now) c.args.visit.now in
+    let same : process_of c.args.process.now ≡ calculus.Parallel (process_of c.deref-in-Par.result.now) (process_of c.deref-in-Par-2.result.now) = ap process_of c.in-Par.is ∙ ap (λ (x : Process). calculus.Parallel (process_of x) (process_of c.in-Par.right.value)) (sym c.deref-in-Par.ensures) ∙ ap (λ (x : Process). calculus.Parallel (process_of c.deref-in-Par.result.now) (process_of x)) (sym c.deref-in-Par-2.ensures) in
+    subst (λ (p : calculus.Process). IfOk c.visit_parallel.result (λ large. Tells P p c.args.place.now.point v c.args.listing.now c.visit_parallel.new.listing large)) (sym same)
+    c.visit_parallel.ensures.tells
+
+pub visit_form-returns-in-Copies-clause-tells : goal.visit_form-returns-in-Copies-clause-tells
+visit_form-returns-in-Copies-clause-tells g t c =
+    let P = protocol_at c.args.place.now in
+    let v = visit_at (g.B.Bank.trees c.args.bank.now) c.args.visit.now in
+    let same : process_of c.args.process.now ≡ calculus.Replication (process_of c.deref-in-Copies.result.now) = ap process_of c.in-Copies.is ∙ ap (λ (x : Process). calculus.Replication (process_of x)) (sym c.deref-in-Copies.ensures) in
+    subst (λ (p : calculus.Process). IfOk c.visit_copies.result (λ large. Tells P p c.args.place.now.point v c.args.listing.now c.visit_copies.new.listing large)) (sym same)
+    c.visit_copies.ensures.tells
+
+pub visit_form-returns-in-New-clause-tells : goal.visit_form-returns-in-New-clause-tells
+visit_form-returns-in-New-clause-tells g t c =
+    let P = protocol_at c.args.place.now in
+    let v = visit_at (g.B.Bank.trees c.args.bank.now) c.args.visit.now in
+    let same : process_of c.args.process.now ≡ calculus.New c.in-New.field-0 (process_of c.deref-in-New.result.now) = ap process_of c.in-New.is ∙ ap (λ (x : Process). calculus.New c.in-New.field-0 (process_of x)) (sym c.deref-in-New.ensures) in
+    subst (λ (p : calculus.Process). IfOk c.visit_new.result (λ large. Tells P p c.args.place.now.point v c.args.listing.now c.visit_new.new.listing large)) (sym same)
+    (if_ok c.visit_new.result (λ (large : Option ℕ). Tells P (calculus.New [] (process_of c.deref-in-New.result.now)) c.args.place.now.point v c.args.listing.now c.visit_new.new.listing large)
+    (λ (large : Option ℕ). Tells P (calculus.New c.in-New.field-0 (process_of c.deref-in-New.result.now)) c.args.place.now.point v c.args.listing.now c.visit_new.new.listing large)
+    (λ large h. spelled_tells P v c.in-New.field-0 (process_of c.deref-in-New.result.now) c.args.place.now.point c.args.listing.now c.visit_new.new.listing large h) c.visit_new.ensures.tells)
+
+pub visit_form-returns-in-Let-clause-tells : goal.visit_form-returns-in-Let-clause-tells
+visit_form-returns-in-Let-clause-tells g t c =
+    let P = protocol_at c.args.place.now in
+    let v = visit_at (g.B.Bank.trees c.args.bank.now) c.args.visit.now in
+    let same : process_of c.args.process.now ≡ calculus.Let (pattern_of c.in-Let.pattern) (expression_of c.in-Let.expression) (process_of c.deref-in-Let.result.now) (process_of c.deref-in-Let-2.result.now) = ap process_of c.in-Let.is ∙ ap (λ (x : Process). calculus.Let (pattern_of c.in-Let.pattern) (expression_of c.in-Let.expression) (process_of x) (process_of c.in-Let.otherwise.value)) (sym c.deref-in-Let.ensures) ∙ ap (λ (x : Process). calculus.Let (pattern_of c.in-Let.pattern) (expression_of c.in-Let.expression) (process_of c.deref-in-Let.result.now) (process_of x)) (sym c.deref-in-Let-2.ensures) in
+    subst (λ (p : calculus.Process). IfOk c.visit_let.result (λ large. Tells P p c.args.place.now.point v c.args.listing.now c.visit_let.new.listing large)) (sym same)
+    c.visit_let.ensures.tells
+
+pub visit_form-returns-in-Event-clause-tells : goal.visit_form-returns-in-Event-clause-tells
+visit_form-returns-in-Event-clause-tells g t c =
+    let P = protocol_at c.args.place.now in
+    let v = visit_at (g.B.Bank.trees c.args.bank.now) c.args.visit.now in
+    let same : process_of c.args.process.now ≡ calculus.Event (event_of c.in-Event.atom) (process_of c.deref-in-Event.result.now) = ap process_of c.in-Event.is ∙ ap (λ (x : Process). calculus.Event (event_of c.in-Event.atom) (process_of x)) (sym c.deref-in-Event.ensures) in
+    subst (λ (p : calculus.Process). IfOk c.visit_event.result (λ large. Tells P p c.args.place.now.point v c.args.listing.now c.visit_event.new.listing large)) (sym same)
+    c.visit_event.ensures.tells
+
+pub visit_form-returns-in-Phase-clause-tells : goal.visit_form-returns-in-Phase-clause-tells
+visit_form-returns-in-Phase-clause-tells g t c =
+    let P = protocol_at c.args.place.now in
+    let v = visit_at (g.B.Bank.trees c.args.bank.now) c.args.visit.now in
+    let same : process_of c.args.process.now ≡ calculus.Phase c.in-Phase.number (process_of c.deref-in-Phase.result.now) = ap process_of c.in-Phase.is ∙ ap (λ (x : Process). calculus.Phase c.in-Phase.number (process_of x)) (sym c.deref-in-Phase.ensures) in
+    subst (λ (p : calculus.Process). IfOk c.visit_phase.result (λ large. Tells P p c.args.place.now.point v c.args.listing.now c.visit_phase.new.listing large)) (sym same)
+    c.visit_phase.ensures.tells
+
+pub visit_form-returns-in-Insert-clause-tells : goal.visit_form-returns-in-Insert-clause-tells
+visit_form-returns-in-Insert-clause-tells g t c =
+    let P = protocol_at c.args.place.now in
+    let v = visit_at (g.B.Bank.trees c.args.bank.now) c.args.visit.now in
+    let same : process_of c.args.process.now ≡ calculus.Insert c.in-Insert.table c.in-Insert.arguments (process_of c.deref-in-Insert.result.now) = ap process_of c.in-Insert.is ∙ ap (λ (x : Process). calculus.Insert c.in-Insert.table c.in-Insert.arguments (process_of x)) (sym c.deref-in-Insert.ensures) in
+    subst (λ (p : calculus.Process). IfOk c.visit_insert.result (λ large. Tells P p c.args.place.now.point v c.args.listing.now c.visit_insert.new.listing large)) (sym same)
+    c.visit_insert.ensures.tells
+
+pub visit_form-returns-in-Get-clause-tells : goal.visit_form-returns-in-Get-clause-tells
+visit_form-returns-in-Get-clause-tells g t c =
+    let P = protocol_at c.args.place.now in
+    let v = visit_at (g.B.Bank.trees c.args.bank.now) c.args.visit.now in
+    let same : process_of c.args.process.now ≡ calculus.Get c.in-Get.table c.in-Get.patterns (condition_of c.in-Get.condition) (process_of c.deref-in-Get.result.now) (process_of c.deref-in-Get-2.result.now) = ap process_of c.in-Get.is ∙ ap (λ (x : Process). calculus.Get c.in-Get.table c.in-Get.patterns (condition_of c.in-Get.condition) (process_of x) (process_of c.in-Get.otherwise.value)) (sym c.deref-in-Get.ensures) ∙ ap (λ (x : Process). calculus.Get c.in-Get.table c.in-Get.patterns (condition_of c.in-Get.condition) (process_of c.deref-in-Get.result.now) (process_of x)) (sym c.deref-in-Get-2.ensures) in
+    subst (λ (p : calculus.Process). IfOk c.visit_get.result (λ large. Tells P p c.args.place.now.point v c.args.listing.now c.visit_get.new.listing large)) (sym same)
+    c.visit_get.ensures.tells
+
+pub visit_form-returns-in-Nil-clause-tells : goal.visit_form-returns-in-Nil-clause-tells
+visit_form-returns-in-Nil-clause-tells g t c =
+    let P = protocol_at c.args.place.now in
+    let v = visit_at (g.B.Bank.trees c.args.bank.now) c.args.visit.now in
+    subst (λ (p : calculus.Process). Tells P p c.args.place.now.point v c.args.listing.now c.args.listing.now None) (sym (ap process_of c.in-Nil.is)) (nil_tells P c.args.place.now.point v c.args.listing.now)
+
+pub visit_output-returns-clause-tells : goal.visit_output-returns-clause-tells
+visit_output-returns-clause-tells g t c =
+    let old = g.B.Bank.trees c.args.bank.now in
+    let mid = g.B.Bank.trees c.add_output.new.bank in
+    let P = protocol_at c.args.place.now in
+    let w = c.args.visit.now in
+    let v = visit_at old w in
+    let output = c.args.output.now in
+    let next = process_of output.next.now in
+    let point = c.args.place.now.point in
+    let to = c.below-below.result in
+    let before = c.args.listing.now in
+    let midway = c.add_output.new.listing in
+    let after = c.visit_process.new.listing in
+    if_ok c.visit_process.result (λ (large : Option ℕ). Tells (protocol_at to) next to.point (visit_at mid w) midway after large) (λ (large : Option ℕ). Tells P (output_form output) point v before after large)
+    (λ large h. output_tells P v (term_of output.channel.now) (term_of output.message.now) next point before midway after large (c.in_ok-add_output.ensures.tells c.if-not-branch.false)
+    (tells_moved P (point + 1) v to (visit_at mid w) next midway after large c.below-below.ensures (visit_later old mid w c.add_output.ensures.grows c.requires.visit).is h)) c.visit_process.ensures.tells
+
+pub visit_insert-returns-clause-tells : goal.visit_insert-returns-clause-tells
+visit_insert-returns-clause-tells g t c =
+    let old = g.B.Bank.trees c.args.bank.now in
+    let mid = g.B.Bank.trees c.add_insert.new.bank in
+    let P = protocol_at c.args.place.now in
+    let w = c.args.visit.now in
+    let v = visit_at old w in
+    let insert = c.args.insert.now in
+    let next = process_of insert.next.now in
+    let point = c.args.place.now.point in
+    let to = c.below-below.result in
+    let before = c.args.listing.now in
+    let midway = c.add_insert.new.listing in
+    let after = c.visit_process.new.listing in
+    if_ok c.visit_process.result (λ (large : Option ℕ). Tells (protocol_at to) next to.point (visit_at mid w) midway after large) (λ (large : Option ℕ). Tells P (insert_form insert) point v before after large)
+    (λ large h. insert_tells P v insert.table insert.arguments.now next point before midway after large (c.in_ok-add_insert.ensures.tells c.if-not-branch.false)
+    (tells_moved P (point + 1) v to (visit_at mid w) next midway after large c.below-below.ensures (visit_later old mid w c.add_insert.ensures.grows c.requires.visit).is h)) c.visit_process.ensures.tells
+
+pub visit_event-returns-in-Some-clause-tells : goal.visit_event-returns-in-Some-clause-tells
+visit_event-returns-in-Some-clause-tells g t c =
+    let old = g.B.Bank.trees c.args.bank.now in
+    let mid = g.B.Bank.trees c.add_event.new.bank in
+    let P = protocol_at c.args.place.now in
+    let v = visit_at old c.args.visit.now in
+    let e = event_of c.args.event.now.atom.now in
+    let next = process_of c.args.event.now.next.now in
+    let point = c.args.place.now.point in
+    let to = c.below-below.result in
+    let before = c.args.listing.now in
+    let midway = c.add_event.new.listing in
+    let after = c.visit_process.new.listing in
+    let adds = subst (λ (o : Option source.Visit). EventAdds P v e mid before midway o) c.in-Some.is c.in_ok-add_event.ensures.adds in
+    let told = subst (λ (o : Option source.Visit). IfSome o (λ made. TellsVisit point v (Ev e.event (event_terms P v e)) before midway)) c.in-Some.is c.in_ok-add_event.ensures.tells in
+    if_ok c.visit_process.result (λ (large : Option ℕ). Tells (protocol_at to) next to.point (visit_at mid c.in-Some.made) midway after large) (λ (large : Option ℕ). Tells P (event_form c.args.event.now) point v before after large)
+    (λ large h. event_tells P v e next point before midway after large told
+    (tells_moved P (point + 1) (after_event P v e) to (visit_at mid c.in-Some.made) next midway after large c.below-below.ensures adds.names.is h)) c.visit_process.ensures.tells
+
+pub visit_input-returns-in-Some-clause-tells : goal.visit_input-returns-in-Some-clause-tells
+visit_input-returns-in-Some-clause-tells g t c =
+    let old = g.B.Bank.trees c.args.bank.now in
+    let mid = g.B.Bank.trees c.after_input.new.bank in
+    let P = protocol_at c.args.place.now in
+    let v = visit_at old c.args.visit.now in
+    let channel = term_of c.args.input.now.channel.now in
+    let pattern = pattern_of c.args.input.now.pattern.now in
+    let next = process_of c.args.input.now.next.now in
+    let point = c.args.place.now.point in
+    let to = c.below-below.result in
+    let before = c.args.listing.now in
+    let after = c.visit_process.new.listing in
+    let got = subst (λ (o : Option source.Visit). MatchOption o (IsLargeInput P v channel pattern) (λ made. Receives P v channel pattern mid made)) c.in-Some.is c.in_ok-after_input.ensures.receives in
+    if_ok c.visit_process.result (λ (large : Option ℕ). Tells (protocol_at to) next to.point (visit_at mid c.in-Some.made) before after large) (λ (large : Option ℕ). Tells P (input_form c.args.input.now) point v before after large)
+    (λ large h. input_tells P v channel pattern got.at next point before after large got.is_fresh
+    (tells_moved P (point + 1) (after_input P v channel pattern got.at) to (visit_at mid c.in-Some.made) next before after large c.below-below.ensures got.names.is h)) c.visit_process.ensures.tells
+
+pub visit_copies-returns-clause-tells : goal.visit_copies-returns-clause-tells
+visit_copies-returns-clause-tells g t c =
+    let old = g.B.Bank.trees c.args.bank.now in
+    let mid = g.B.Bank.trees c.after_copy.new.bank in
+    let P = protocol_at c.args.place.now in
+    let w = c.args.visit.now in
+    let v = visit_at old w in
+    let copied = process_of c.args.copied.now in
+    let point = c.args.place.now.point in
+    let to = c.below-below.result in
+    let before = c.args.listing.now in
+    let after = c.visit_process.new.listing in
+    if_ok c.visit_process.result (λ (large : Option ℕ). Tells (protocol_at to) copied to.point (visit_at mid c.in_ok-made.made) before after large) (λ (large : Option ℕ). Tells P (calculus.Replication copied) point v before after large)
+    (λ large h. copies_tell P v w.next copied point before after large c.requires.visit.below
+    (tells_moved P (point + 1) (after_copy v w.next) to (visit_at mid c.in_ok-made.made) copied before after large c.below-below.ensures c.in_ok-made.ensures.names.is h)) c.visit_process.ensures.tells
+
+pub visit_new-returns-in-Some-clause-tells : goal.visit_new-returns-in-Some-clause-tells
+visit_new-returns-in-Some-clause-tells g t c =
+    let old = g.B.Bank.trees c.args.bank.now in
+    let mid = g.B.Bank.trees c.after_new.new.bank in
+    let P = protocol_at c.args.place.now in
+    let v = visit_at old c.args.visit.now in
+    let next = process_of c.args.next.now in
+    let point = c.args.place.now.point in
+    let to = c.below-below.result in
+    let before = c.args.listing.now in
+    let after = c.visit_process.new.listing in
+    let names : NamesVisit mid c.in-Some.made (after_new v point) = subst (λ (o : Option source.Visit). IfSome o (λ made. NamesVisit mid made (after_new v point))) c.in-Some.is c.in_ok-after_new.ensures.names in
+    if_ok c.visit_process.result (λ (large : Option ℕ). Tells (protocol_at to) next to.point (visit_at mid c.in-Some.made) before after large) (λ (large : Option ℕ). Tells P (calculus.New [] next) point v before after large)
+    (λ large h. new_tells P v [] next point before after large
+    (tells_moved P (point + 1) (after_new v point) to (visit_at mid c.in-Some.made) next before after large c.below-below.ensures names.is h)) c.visit_process.ensures.tells
+
+pub visit_phase-returns-clause-tells : goal.visit_phase-returns-clause-tells
+visit_phase-returns-clause-tells g t c =
+    let old = g.B.Bank.trees c.args.bank.now in
+    let P = protocol_at c.args.place.now in
+    let v = visit_at old c.args.visit.now in
+    let phase = c.args.phase.now in
+    let next = process_of phase.next.now in
+    let point = c.args.place.now.point in
+    let to = c.below-below.result in
+    let before = c.args.listing.now in
+    let after = c.visit_process.new.listing in
+    if_ok c.visit_process.result (λ (large : Option ℕ). Tells (protocol_at to) next to.point (visit_at old c.in_ok-made.made) before after large) (λ (large : Option ℕ). Tells P (phase_form phase) point v before after large)
+    (λ large h. phase_tells P v phase.number next point before after large
+    (tells_moved P (point + 1) (after_phase v phase.number) to (visit_at old c.in_ok-made.made) next before after large c.below-below.ensures (c.in_ok-made.ensures old c.requires.visit).is h)) c.visit_process.ensures.tells
+
+pub visit_parallel-returns-in-None-clause-tells : goal.visit_parallel-returns-in-None-clause-tells
+visit_parallel-returns-in-None-clause-tells g t c =
+    let old = g.B.Bank.trees c.args.bank.now in
+    let mid = g.B.Bank.trees c.visit_process.new.bank in
+    let P = protocol_at c.args.place.now in
+    let w = c.args.visit.now in
+    let v = visit_at old w in
+    let left = process_of c.args.both.now.left.now in
+    let right = process_of c.args.both.now.right.now in
+    let point = c.args.place.now.point in
+    let to = c.after-after.result in
+    let before = c.args.listing.now in
+    let midway = c.visit_process.new.listing in
+    let after = c.visit_process-in-None.new.listing in
+    let first = tells_moved P (point + 1) v c.below-below.result v left before midway None c.below-below.ensures refl
+    (subst (λ (o : Option ℕ). Tells (protocol_at c.below-below.result) left c.below-below.result.point v before midway o) c.in-None.is c.in_ok-point.ensures.tells) in
+    if_ok c.visit_process-in-None.result (λ (large : Option ℕ). Tells (protocol_at to) right to.point (visit_at mid w) midway after large) (λ (large : Option ℕ). Tells P (parallel_form c.args.both.now) point v before after large)
+    (λ large h. parallel_tells P v left right point before midway after large first
+    (tells_moved P (point_after (point + 1) left) v to (visit_at mid w) right midway after large c.after-after.ensures (visit_later old mid w c.visit_process.ensures.grows c.requires.visit).is h)) c.visit_process-in-None.ensures.tells
+
+pub visit_let-returns-clause-tells : goal.visit_let-returns-clause-tells
+visit_let-returns-clause-tells g t c =
+    let old = g.B.Bank.trees c.args.bank.now in
+    let P = protocol_at c.args.place.now in
+    let w = c.args.visit.now in
+    let v = visit_at old w in
+    let choice = c.args.choice.now in
+    let e = expression_of choice.expression.now in
+    let listed = ap (map instruction_of) c.deref-2.ensures.value ∙ c.in_ok-instructions.ensures in
+    let mid = g.B.Bank.trees c.look_at_choices.new.bank in
+    let end = g.B.Bank.trees c.visit_chosen.new.bank in
+    let told = g.B.Bank.trees c.else_visit.new.bank in
+    let pattern = pattern_of choice.pattern.now in
+    let next = process_of choice.next.now in
+    let otherwise = process_of choice.otherwise.now in
+    let point = c.args.place.now.point in
+    let to = c.after-after.result in
+    let all = map instruction_of c.deref-2.result.now in
+    let before = c.args.listing.now in
+    let midway = c.visit_chosen.new.listing in
+    let after = c.visit_branch.new.listing in
+    let made = c.in_ok-made-in-None.made in
+    let besides = otherwise_visit P v pattern e in
+    let each = subst (λ (o : Option ℕ). TellsEach P (visit_at mid w) pattern e next (point + 1) before midway o) c.in-None.is (c.in_ok-point.ensures.tells e listed) in
+    let first = subst (λ (x : Visit). TellsEach P x pattern e next (point + 1) before midway None) (visit_later old mid w c.look_at_choices.ensures.grows c.requires.visit).is each in
+    let later = visit_later old end w (Grows_trans old mid end c.look_at_choices.ensures.grows c.visit_chosen.ensures.grows) c.requires.visit in
+    let named : (otherwise ≡ calculus.Nil → ⊥) → visit_at told made ≡ besides =
+    λ some. (c.in_ok-made-in-None.ensures.names e (completed_by P all e listed) some).is ∙ ap (λ (x : Visit). otherwise_visit P x pattern e) later.is in
+    if_ok c.visit_branch.result (λ (large : Option ℕ). TellsBelow (protocol_at to) otherwise to.point (visit_at told made) attack.Else midway after large) (λ (large : Option ℕ). Tells P (let_form choice) point v before after large)
+    (λ large h. let_tells P v pattern e next otherwise point before midway after large first
+    (else_told P otherwise (point_after (point + 1) next) (visit_at told made) besides attack.Else midway after large named
+    (below_moved P (point_after (point + 1) next) to (visit_at told made) attack.Else otherwise midway after large c.after-after.ensures h))) c.visit_branch.ensures.tells
+
+pub visit_chosen-returns-in-Nil-clause-tells : goal.visit_chosen-returns-in-Nil-clause-tells
+visit_chosen-returns-in-Nil-clause-tells g t c = λ e is.
+    let old = g.B.Bank.trees c.args.bank.now in
+    let choosing = c.args.choosing.now in
+    let P = protocol_at choosing.place.now in
+    let v = visit_at old choosing.visit.now in
+    let pattern = pattern_of choosing.pattern.now in
+    let point = choosing.place.now.point + 1 in
+    let counts = c.count_visits.ensures in
+    let before = c.args.listing.now in
+    let after = c.count_visits.new.listing in
+    let small = c.requires.small.1.small in
+    subst (λ (p : calculus.Process). TellsEach P v pattern e p point before after c.count_visits.result) (sym (ap process_of c.in-Nil.is))
+    (nothing_chosen P v pattern e point small.outs before after c.count_visits.result (subst (λ (l : List Ruled). EachGoesOn P v pattern l small.outs) (completed_by P (instructions_of choosing) e is) small.go) counts.sources counts.choices)
+
+pub visit_choices-returns-clause-tells : goal.visit_choices-returns-clause-tells
+visit_choices-returns-clause-tells g t c = λ e is.
+    let old = g.B.Bank.trees c.args.bank.now in
+    let choosing = c.args.choosing.now in
+    let P = protocol_at choosing.place.now in
+    let counted = choices_counted old choosing c.requires.known in
+    all_told P (visit_at old choosing.visit.now) (pattern_of choosing.pattern.now) e (process_of c.args.process.now) (choosing.place.now.point + 1) c.args.listing.now c.each.listing c.each.number (c.each.invariant.told e is)
+    (omega (arith, counted, ap length (completed_by P (instructions_of choosing) e is), c.each-test.false))
+
+pub visit_choices-returns-in-Some-clause-tells : goal.visit_choices-returns-in-Some-clause-tells
+visit_choices-returns-in-Some-clause-tells g t c = λ e is. tt
+
+pub visit_way-returns-in-Visit-clause-tells : goal.visit_way-returns-in-Visit-clause-tells
+visit_way-returns-in-Visit-clause-tells g t c =
+    let old = g.B.Bank.trees c.args.bank.now in
+    let P = protocol_at c.args.place.now in
+    let process = process_of c.args.process.now in
+    let point = c.args.place.now.point in
+    let before = c.args.listing.now in
+    let after = c.visit_branch.new.listing in
+    subst (λ (x : Way). IfOk c.visit_branch.result (λ large. TellsWay P process point old c.args.taken.label x before after large)) (sym c.in-Visit.is) c.visit_branch.ensures.tells
+
+pub visit_way-returns-in-Nowhere-clause-tells : goal.visit_way-returns-in-Nowhere-clause-tells
+visit_way-returns-in-Nowhere-clause-tells g t c =
+    nothing_way (protocol_at c.args.place.now) (process_of c.args.process.now) c.args.place.now.point (g.B.Bank.trees c.args.bank.now) c.args.taken.label c.args.taken.way.now c.args.listing.now c.in-Nowhere.is
+
+pub visit_get-returns-clause-tells : goal.visit_get-returns-clause-tells
+visit_get-returns-clause-tells g t c =
+    let old = g.B.Bank.trees c.args.bank.now in
+    let mid = g.B.Bank.trees c.entry_way.new.bank in
+    let end = g.B.Bank.trees c.visit_way.new.bank in
+    let P = protocol_at c.args.place.now in
+    let w = c.args.visit.now in
+    let v = visit_at old w in
+    let get = c.args.get.now in
+    let next = process_of get.next.now in
+    let otherwise = process_of get.otherwise.now in
+    let point = c.args.place.now.point in
+    let to = c.after-after.result in
+    let goes = c.in_ok-way.ensures.goes in
+    let small = small_way mid c.in_ok-way.way goes.large goes.out (sym c.is_large.ensures ∙ c.if-is_large.false) goes.way in
+    let before = c.args.listing.now in
+    let midway = c.visit_way.new.listing in
+    let after = c.visit_branch.new.listing in
+    let empty = c.new.result.items in
+    let label : List ℕ = [] in
+    let told = way_moved P (point + 1) c.below-below.result next mid empty c.in_ok-way.way before midway c.below-below.ensures
+    (subst (λ (o : Option ℕ). TellsWay (protocol_at c.below-below.result) next c.below-below.result.point mid empty c.in_ok-way.way before midway o) c.in-None.is c.in_ok-point.ensures.tells) in
+    let tells = subst (λ (l : List ℕ). TellsWay P next (point + 1) mid l c.in_ok-way.way before midway None) c.new.ensures.items told in
+    let found = gathered_way P next (point + 1) mid label c.in_ok-way.way (attack.Taken label ∷ []) (goes.out ∷ []) before midway (λ one. refl) small.ways tells in
+    let later = visit_later old end w (Grows_trans old mid end c.entry_way.ensures.grows c.visit_way.ensures.grows) c.requires.visit in
+    if_ok c.visit_branch.result (λ (large : Option ℕ). TellsBelow (protocol_at to) otherwise to.point (visit_at end w) attack.Else midway after large) (λ (large : Option ℕ). Tells P (get_form get) point v before after large)
+    (λ large h. get_tells P v get.table get.patterns.now (condition_of get.condition.now) next otherwise point goes.large goes.out found.more before midway after large goes.goes found.gathers found.told
+    (subst (λ (x : Visit). TellsBelow P otherwise (point_after (point + 1) next) x attack.Else midway after large) later.is
+    (below_moved P (point_after (point + 1) next) to (visit_at end w) attack.Else otherwise midway after large c.after-after.ensures h))) c.visit_branch.ensures.tells
+
+pub visit_process-returns-then-listing-eq0-clause-tells : goal.visit_process-returns-then-listing-eq0-clause-tells
+visit_process-returns-then-listing-eq0-clause-tells g t c = tt
+
+pub visit_output-returns-then-not-branch-clause-tells : goal.visit_output-returns-then-not-branch-clause-tells
+visit_output-returns-then-not-branch-clause-tells g t c = tt
+
+pub visit_event-returns-in-None-clause-tells : goal.visit_event-returns-in-None-clause-tells
+visit_event-returns-in-None-clause-tells g t c = tt
+
+pub visit_input-returns-in-None-clause-tells : goal.visit_input-returns-in-None-clause-tells
+visit_input-returns-in-None-clause-tells g t c = tt
+
+pub visit_new-returns-in-None-clause-tells : goal.visit_new-returns-in-None-clause-tells
+visit_new-returns-in-None-clause-tells g t c = tt
+
+pub visit_parallel-returns-in-Some-clause-tells : goal.visit_parallel-returns-in-Some-clause-tells
+visit_parallel-returns-in-Some-clause-tells g t c = tt
+
+pub visit_let-returns-then-is_large_let-clause-tells : goal.visit_let-returns-then-is_large_let-clause-tells
+visit_let-returns-then-is_large_let-clause-tells g t c = tt
+
+pub visit_let-returns-then-looked-clause-tells : goal.visit_let-returns-then-looked-clause-tells
+visit_let-returns-then-looked-clause-tells g t c = tt
+
+pub visit_let-returns-in-Some-clause-tells : goal.visit_let-returns-in-Some-clause-tells
+visit_let-returns-in-Some-clause-tells g t c = tt
+
+pub visit_insert-returns-then-not-branch-clause-tells : goal.visit_insert-returns-then-not-branch-clause-tells
+visit_insert-returns-then-not-branch-clause-tells g t c = tt
+
+pub visit_get-returns-then-some_large_compared_in-clause-tells : goal.visit_get-returns-then-some_large_compared_in-clause-tells
+visit_get-returns-then-some_large_compared_in-clause-tells g t c = tt
+
+pub visit_get-returns-then-is_large-clause-tells : goal.visit_get-returns-then-is_large-clause-tells
+visit_get-returns-then-is_large-clause-tells g t c = tt
+
+pub visit_get-returns-in-Some-clause-tells : goal.visit_get-returns-in-Some-clause-tells
+visit_get-returns-in-Some-clause-tells g t c = tt

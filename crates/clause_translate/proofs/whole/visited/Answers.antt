@@ -1,4 +1,4 @@
-use Rattle.std.proofs.Common.{ℕ, Option, true, refl, subst}
+use Rattle.std.proofs.Common.{ℕ, Option, None, true, refl, subst}
 use Rattle.spec_calculus.specs.Bounds.{most_visits}
 use Rattle.pi_tree.specs.Protocols.{protocol_of}
 use Rattle.term_tree.proofs.BankLaws.{Grows_trans}
@@ -14,7 +14,7 @@ returns-in-None-2-clause-visits g c =
     let old = g.B.Bank.trees c.args.bank.now in
     let mid = g.B.Bank.trees c.first_large.new.bank in
     let new = g.B.Bank.trees c.visit_main.new.bank in
-    let before : Listing = record { clauses = c.args.clauses; left = most_visits; keeps = true } in
+    let before : Listing = record { clauses = c.args.clauses; left = most_visits; keeps = true; choices = c.no_choices.result; sources = None } in
     let after = c.visit_main.new.listing in
     visits_added P old new before after refl refl (Grows_trans old mid new c.first_large.ensures.grows c.visit_main.ensures.grows) c.requires.clauses c.requires.low
     (subst (λ (large : Option ℕ). Ends P (Once P.main 1 first_visit) new before after large) c.in-None-2.is c.in_ok-point-2.ensures.ends)

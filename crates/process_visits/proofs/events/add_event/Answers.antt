@@ -10,16 +10,19 @@ use Rattle.spec_clauses.proofs.NormTidied.{same_norms}
 use Rattle.spec_terms.specs.Term.{Term}
 use Rattle.pi_tree.specs.Events.{event_of}
 use Rattle.spec_translation.specs.Visit.{event_terms, after_event}
+use Rattle.spec_clauses.specs.Fact.{Ev}
 use Rattle.clause_form.specs.Seen.{clause_at}
 use Rattle.clause_form.proofs.Copying.{NameTerms-grows}
 use Rattle.process_visits.specs.declared.visit.Visit.{Visit}
 use Rattle.process_visits.specs.Forms.{Adds, raw_event, below_event, event_raw, IsSmallVisit, EventAdds}
 use Rattle.process_visits.specs.Places.{protocol_at}
+use Rattle.process_visits.specs.Telling.{TellsVisit}
 use Rattle.process_visits.specs.Visits.{visit_at}
 use Rattle.process_visits.proofs.Named.{if_ok, visit_later, below_parts}
 use Rattle.process_visits.proofs.Adding.{same_large_raw}
 use Rattle.process_visits.proofs.Below.{terms_in_below}
 use Rattle.process_visits.proofs.Happening.{event_named, event_first, event_second, event_last, if_true, if_false}
+use Rattle.process_visits.proofs.Telling.{told_as, all_found}
 use Rattle.process_visits.proofs.events.add_event.Goals as goal
 
 pub returns-then-some_large_term-clause-adds : goal.returns-then-some_large_term-clause-adds
@@ -27,8 +30,12 @@ returns-then-some_large_term-clause-adds g c =
     let old = g.B.Bank.trees c.args.bank.now in
     event_first (protocol_at c.args.place.now) (visit_at old c.args.visit.now) (event_of c.args.atom.now) (sym c.some_large_term.ensures ∙ c.if-some_large_term.true)
 
-pub add-requires : goal.add-requires
-add-requires g c =
+pub add-requires-clause-visit : goal.add-requires-clause-visit
+add-requires-clause-visit g c =
+    (visit_later (g.B.Bank.trees c.args.bank.now) (g.B.Bank.trees c.terms_in.new.bank) c.args.visit.now c.terms_in.ensures.grows c.requires.visit).known
+
+pub add-requires-clause-raw : goal.add-requires-clause-raw
+add-requires-clause-raw g c =
     let old = g.B.Bank.trees c.args.bank.now in
     let mid = g.B.Bank.trees c.terms_in.new.bank in
     let w = c.args.visit.now in
@@ -107,3 +114,19 @@ returns-clause-grows g c = Grows_trans (g.B.Bank.trees c.args.bank.now) (g.B.Ban
 
 pub returns-then-some_large_term-clause-grows : goal.returns-then-some_large_term-clause-grows
 returns-then-some_large_term-clause-grows g c = Grows_refl (g.B.Bank.trees c.args.bank.now)
+
+pub returns-then-added-clause-tells : goal.returns-then-added-clause-tells
+returns-then-added-clause-tells g c =
+    let old = g.B.Bank.trees c.args.bank.now in
+    let mid = g.B.Bank.trees c.terms_in.new.bank in
+    let w = c.args.visit.now in
+    let P = protocol_at c.args.place.now in
+    let v = visit_at old w in
+    let e = event_of c.args.atom.now in
+    let names = c.in_ok-arguments.ensures.names in
+    let at_mid = visit_later old mid w c.terms_in.ensures.grows c.requires.visit in
+    let named = event_named mid w e.event c.in_ok-arguments.arguments c.in_ok-raw.raw at_mid.known names.known c.in_ok-raw.ensures in
+    let raw_so : raw_event (visit_at mid w) e.event (map (tree_at mid) c.in_ok-arguments.arguments) ≡ event_raw P v e = λ i. raw_event (at_mid.is i) e.event (names.are i) in
+    let differ = subst (λ (d : Clause Term). DifferInBound (clause_at mid c.in_ok-raw.raw) d) raw_so named.differ in
+    all_found c.event_below.result (TellsVisit c.args.place.now.point v (Ev e.event (event_terms P v e)) c.args.listing.now c.add.new.self)
+    (told_as mid c.args.place.now.point w v (Ev e.event (event_terms P v e)) c.in_ok-raw.raw c.args.listing.now c.add.new.self at_mid.is differ (c.in_ok-added.ensures.tells c.if-added.true))

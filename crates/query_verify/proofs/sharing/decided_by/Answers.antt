@@ -6,7 +6,7 @@ use Rattle.query_verify.proofs.Commons.{rewound}
 use Rattle.query_verify.proofs.sharing.decided_by.Goals as goal
 
 pub finished-answer-requires : goal.finished-answer-requires
-finished-answer-requires g c = λ κs h. (h, (c.requires.question, (c.requires.queries, (c.requires.given, (refl, (c.requires.common.held, c.requires.kept))))))
+finished-answer-requires g c = λ κs h. (h, (c.requires.question, (c.requires.given, (refl, (c.requires.common.held, c.requires.kept)))))
 
 pub rewind-requires : goal.rewind-requires
 rewind-requires g c = c.finished-answer.ensures.common.within

@@ -19,7 +19,7 @@ gone_on-answer-requires g c = λ κs h. (
     let same : c.deref.result.now ≡ all = c.deref.ensures.value ∙ c.all.view_is in
     let copied = goal_behind P old mid c.in_ok-copied.copied all budget t.query (c.translations_have_one_goal.ensures.one P) (c.in_ok-all.ensures.names t.query t.is) in
     let behind : AreGoalBehind mid (shared_of old c.args.given.now budget) all = subst (λ (cs : List IdClause). AreGoalBehind mid (shared_of old cs budget) all) c.in_ok-copied.ensures copied in
-    let shared : AreGoalBehind mid g.shared all = subst (λ (s : Shared). AreGoalBehind mid s all) (sym c.requires.1.1.1.1.0) behind in (
+    let shared : AreGoalBehind mid g.shared all = subst (λ (s : Shared). AreGoalBehind mid s all) (sym c.requires.1.1.1.0) behind in (
       h,
       (
         c.requires.1.0,
@@ -28,10 +28,10 @@ gone_on-answer-requires g c = λ κs h. (
           (
             subst (λ (cs : List IdClause). AreGoalBehind mid g.shared cs) (sym same) shared,
             (
-              ap (λ s. s.budget) c.requires.1.1.1.1.0,
+              ap (λ s. s.budget) c.requires.1.1.1.0,
               (
-                c.commons_serve_each_goal.ensures.grown old mid g.shared c.args.sharing.now.common c.in_ok-all.ensures.grows c.requires.1.1.1.1.1.0,
-                c.known_rows_outlast_growth.ensures.grown old mid c.args.sharing.now.known c.in_ok-all.ensures.grows c.requires.1.1.1.1.1.1,
+                c.commons_serve_each_goal.ensures.grown old mid g.shared c.args.sharing.now.common c.in_ok-all.ensures.grows c.requires.1.1.1.1.0,
+                c.known_rows_outlast_growth.ensures.grown old mid c.args.sharing.now.known c.in_ok-all.ensures.grows c.requires.1.1.1.1.1,
               ),
             ),
           ),
@@ -42,4 +42,4 @@ gone_on-answer-requires g c = λ κs h. (
 pub returns-clause-kept : goal.returns-clause-kept
 returns-clause-kept g c =
     kept_back (g.B.Bank.trees c.args.bank.now) (g.B.Bank.trees c.with_goal.new.bank) c.args.sharing.now.known c.gone_on-answer.new.sharing.known c.gone_on-answer.result (c.known_rows_outlast_growth.ensures.back _ _)
-    c.in_ok-all.ensures.grows c.requires.1.1.1.1.1.1 c.gone_on-answer.ensures.live c.gone_on-answer.ensures.given c.gone_on-answer.ensures.kept
+    c.in_ok-all.ensures.grows c.requires.1.1.1.1.1 c.gone_on-answer.ensures.live c.gone_on-answer.ensures.given c.gone_on-answer.ensures.kept

@@ -1,4 +1,4 @@
-use Rattle.std.proofs.Common.{◌≤◌, length, map, take, sym, subst, arith}
+use Rattle.std.proofs.Common.{◌≤◌, length, map, sym, subst, arith}
 use Rattle.std.proofs.lemmas.Grind.{common_steps}
 use Rattle.std.proofs.lemmas.List.{length-map, take-map}
 use Rattle.pi_model.specs.Steps.{step_of}

@@ -1,0 +1,4 @@
+pub mod Standing
+pub mod Walks
+pub mod Compiled
+pub mod Told

@@ -1,0 +1,6 @@
+pub mod Listing
+pub mod States
+pub mod Outcomes
+pub mod Parts
+pub mod Placings
+pub mod Applied

@@ -1,0 +1,5 @@
+pub mod Codes
+pub mod Seen
+pub mod Listed
+pub mod Bound
+pub mod Places

@@ -1,0 +1,12 @@
+pub mod Keeping
+pub mod Replaying
+pub mod Laws
+pub mod OneList
+pub mod OneDescent
+pub mod OneAnswer
+pub mod BesideClauses
+pub mod BesideVisits
+pub mod ExamplesCompiled
+pub mod Examples
+pub mod Expanding
+pub mod Longer
