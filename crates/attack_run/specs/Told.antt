@@ -5,8 +5,8 @@ use Rattle.spec_calculus.specs.Points.{numbered}
 use Rattle.spec_calculus.specs.Runs.{Step}
 use Rattle.spec_saturation.specs.Key.{Entry}
 use Rattle.spec_attack_runs.specs.Attack.{IsCompiled, Reconstructed}
-use Rattle.clause_saturate.specs.declared.log.PlainEntry.{PlainEntry}
-use Rattle.clause_saturate.specs.PlainLogs.{TellPlainLog}
+use Rattle.log_entries.specs.declared.log.PlainEntry.{PlainEntry}
+use Rattle.log_entries.specs.PlainLogs.{TellPlainLog}
 
 -- the query of that number has such an attack by the entry, in each log that the entries tell, or none
 abbrev pub IsTold : Protocol → ℕ → List PlainEntry → ℕ → Option (List Step) → Type 0

@@ -47,9 +47,9 @@ fn phase_of(fact: &PlainFact) -> u32
 fn stage_of(source: &Source) -> u32
     ensures { result ≡ stage_of source.now }
 {
-    match &source.action {
+    match source.action() {
         Action::Reaches(way) => way.phase,
-        _ => phase_of(&source.raw.concl),
+        _ => phase_of(&source.raw().concl),
     }
 }
 
@@ -73,7 +73,7 @@ fn compile_one(
 {
     let alloc = compilation.alloc;
     let protocol = compilation.protocol;
-    match &source.action {
+    match source.action() {
         Action::Idle => Ok(true),
         Action::Builds(constructor) => {
             match state.places(alloc, protocol, bank, &instance.supposed.items)? {

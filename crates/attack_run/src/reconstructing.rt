@@ -13,15 +13,15 @@ ghost use Rattle.pi_tree.specs.Accessors.{IsThere};
 ghost use Rattle.pi_tree.specs.declared.accessors.Kind.TheVariants.{Query as OfQueries};
 ghost use Rattle.pi_model.specs.Steps.{step_of};
 ghost use Rattle.clause_translate.specs.Whole.{IsLargeAt};
-ghost use Rattle.clause_saturate.specs.PlainLogs.{TellPlainLog};
+ghost use Rattle.log_entries.specs.PlainLogs.{TellPlainLog};
 ghost use Rattle.clause_instances.specs.Derivations.{HasNormedLog};
 ghost use Rattle.attack_run.specs.Compiled.{AreFew};
 ghost use Rattle.attack_run.specs.Told.{IsTold, AreCompiled};
 
 use crate::compiling::{Compilation, compiled};
 use clause_instances::{Derivation, instances_of};
-use clause_saturate::PlainLog;
 use clause_translate::sources;
+use log_entries::PlainLog;
 use pi_model::Step;
 use pi_tree::Protocol;
 use run_replay::{Steps, violates};

@@ -4,3 +4,4 @@ pub mod Outcomes
 pub mod Parts
 pub mod Placings
 pub mod Applied
+pub mod Valued

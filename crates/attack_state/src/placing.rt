@@ -20,6 +20,7 @@ use term_tree::{Bank, Id, Node, Sym};
 
 impl State {
     /// The first known place of the term's value.
+    #[inline(never)]
     fn place_in(&self, bank: &SharedBank, term: Id) -> Result<Option<u32>, AllocError>
         requires knows { KnowsValues self.now.conf.known self.now.known }
         requires room { length self.now.conf.known < 2 ^ 32 }
@@ -34,6 +35,7 @@ impl State {
     }
 
     /// A step that makes a value known, and the place that it gets, if it can be made.
+    #[inline(never)]
     fn made_known(
         &mut self,
         alloc: Global,
@@ -54,6 +56,7 @@ impl State {
     }
 
     /// A name of the attacker's own is made for the term, and gets a place.
+    #[inline(never)]
     fn fresh_place(
         &mut self,
         alloc: Global,

@@ -2,8 +2,8 @@
 
 ghost use Rattle.std.specs.Prelude.{◌≡◌, ℕ, ◌%◌, ◌<◌, ◌^◌, Some, [], ◌∷◌, ◌++◌, List, length, map, option_map, IfOk, OnOk};
 ghost use Rattle.std.specs.List.{find};
-ghost use Rattle.spec_trees.specs.Tree.{trees};
-ghost use Rattle.spec_calculus.specs.Values.{same_value};
+ghost use Rattle.spec_trees.specs.Tree.{Leaf, trees};
+ghost use Rattle.spec_calculus.specs.Values.{FreeName, same_value};
 ghost use Rattle.spec_terms.specs.Term.{Term};
 ghost use Rattle.spec_attack_runs.specs.Compiling.{Named as NamedOf, first_number, named, closed_value, closed_values};
 ghost use Rattle.pi_tree.specs.Values.{value_of};
@@ -12,6 +12,7 @@ ghost use Rattle.fact_classes.specs.Classes.{listed};
 ghost use Rattle.attack_state.specs.Applied.{applied};
 ghost use Rattle.attack_state.specs.Listing.{AreListed, passes_at};
 ghost use Rattle.attack_state.specs.States.{KnowsValues, KnowsSome, NameNamed, named_class, names_id};
+ghost use Rattle.attack_state.specs.Valued.{AddsValue, AddsValues};
 
 use destructor_rules::is_same;
 use fact_classes::Classes;
@@ -90,6 +91,27 @@ fn applied(symbol: Sym, values: Values) -> Value
         Sym::Ctor(number) | Sym::Data(number) => Value::App(number, values),
         _ => Value::Tuple(values),
     }
+}
+
+/// Adds the value of a term whose root is applied to parts of these values; true.
+#[inline(never)]
+fn add_applied(symbol: Sym, items: Vec<Value>, made: &mut Vec<Value>) -> Result<bool, AllocError>
+    ensures { IfOk result (λ told. AddsValue (map value_of made.old.items)
+        (map value_of made.new.items) told
+        (Some (applied (symbol_of symbol) (map value_of items.items)))) }
+{
+    made.push(applied(symbol, Values { items }))?;
+    Ok(true)
+}
+
+/// Adds a free name; true.
+#[inline(never)]
+fn add_free(number: u32, made: &mut Vec<Value>) -> Result<bool, AllocError>
+    ensures { IfOk result (λ told. AddsValue (map value_of made.old.items)
+        (map value_of made.new.items) told (Some (Leaf (FreeName number)))) }
+{
+    made.push(Value::Free(number))?;
+    Ok(true)
 }
 
 /// The value that was made for a closed term: a name of a restriction or of the attacker.
@@ -176,24 +198,85 @@ impl Names {
         }
     }
 
-    /// The value of a name as one's own, if one was made.
+    /// Adds the value of a name; false where none was made.
     #[inline(never)]
-    fn named(&self, bank: &SharedBank, term: Id) -> Result<Option<Value>, AllocError>
+    fn add_named(
+        &self,
+        bank: &SharedBank,
+        term: Id,
+        made: &mut Vec<Value>,
+    ) -> Result<bool, AllocError>
         requires { term.index < length bank.now }
         ensures { (names : List NamedOf) → NameNamed bank.now self.now.items.items names →
             AreListed named_class self.now.items.items self.now.classes →
-            IfOk result (λ found. option_map value_of found ≡ named names (tree_at bank.now term)) }
+            IfOk result (λ told. AddsValue (map value_of made.old.items)
+            (map value_of made.new.items) told (named names (tree_at bank.now term))) }
     {
         bank.equal_trees_have_equal_ids();
         match self.get(term) {
-            None => Ok(None),
-            Some(value) => Ok(Some(value.copy(self.alloc)?)),
+            None => Ok(false),
+            Some(value) => {
+                made.push(value.copy(self.alloc)?)?;
+                Ok(true)
+            }
         }
     }
 
+    /// Adds the value of a closed term; false where one of its names wasn't made. Terms are thousands of levels deep, so it keeps
+    /// little at each level.
+    #[cycle(add_value)]
+    fn add_value(
+        &self,
+        bank: &SharedBank,
+        term: Id,
+        made: &mut Vec<Value>,
+    ) -> Result<bool, AllocError>
+        requires { term.index < length bank.now }
+        ensures { (names : List NamedOf) → NameNamed bank.now self.now.items.items names →
+            AreListed named_class self.now.items.items self.now.classes →
+            IfOk result (λ told. AddsValue (map value_of made.old.items)
+            (map value_of made.new.items) told (closed_value names (tree_at bank.now term))) }
+    {
+        match bank.node(term) {
+            Node::Var(_) => Ok(false),
+            Node::App(symbol, arguments) => match symbol {
+                Sym::Free(number) => add_free(number, made),
+                Sym::Point(_) | Sym::Attacker => self.add_named(bank, term, made),
+                Sym::Ctor(_) | Sym::Data(_) | Sym::Tuple(_) => {
+                    let mut items = Vec::with_capacity(self.alloc, arguments.len())?;
+                    if !self.add_values(bank, arguments, &mut items)? {
+                        return Ok(false);
+                    }
+                    add_applied(symbol, items, made)
+                }
+            },
+        }
+    }
+
+    /// Adds the values of closed terms; false where one of their names wasn't made.
+    #[cycle(add_value)]
+    fn add_values(
+        &self,
+        bank: &SharedBank,
+        terms: &[Id],
+        made: &mut Vec<Value>,
+    ) -> Result<bool, AllocError>
+        requires { AreKnown bank.now terms.now }
+        ensures { (names : List NamedOf) → NameNamed bank.now self.now.items.items names →
+            AreListed named_class self.now.items.items self.now.classes →
+            IfOk result (λ told. AddsValues (map value_of made.old.items)
+            (map value_of made.new.items) told
+            (closed_values names (trees (map (tree_at bank.now) terms.now)))) }
+    {
+        'each: for term in terms {
+            if !self.add_value(bank, *term, made)? {
+                return Ok(false);
+            }
+        }
+        Ok(true)
+    }
+
     /// The value of a closed term, where its names were made.
-    #[cycle(value_of)]
-    #[inline(always)]
     pub fn value_of(&self, bank: &SharedBank, term: Id) -> Result<Option<Value>, AllocError>
         requires { term.index < length bank.now }
         ensures { (names : List NamedOf) → NameNamed bank.now self.now.items.items names →
@@ -201,23 +284,14 @@ impl Names {
             IfOk result (λ found. option_map value_of found ≡
             closed_value names (tree_at bank.now term)) }
     {
-        match bank.node(term) {
-            Node::Var(_) => Ok(None),
-            Node::App(symbol, arguments) => match symbol {
-                Sym::Free(number) => Ok(Some(Value::Free(number))),
-                Sym::Point(_) | Sym::Attacker => self.named(bank, term),
-                Sym::Ctor(_) | Sym::Data(_) | Sym::Tuple(_) => {
-                    match self.values_of(bank, arguments)? {
-                        None => Ok(None),
-                        Some(values) => Ok(Some(applied(symbol, values))),
-                    }
-                }
-            },
+        let mut made = Vec::new(self.alloc);
+        if !self.add_value(bank, term, &mut made)? {
+            return Ok(None);
         }
+        Ok(made.pop())
     }
 
     /// The values of closed terms, where their names were made.
-    #[cycle(value_of)]
     pub fn values_of(&self, bank: &SharedBank, terms: &[Id]) -> Result<Option<Values>, AllocError>
         requires { AreKnown bank.now terms.now }
         ensures { (names : List NamedOf) → NameNamed bank.now self.now.items.items names →
@@ -226,11 +300,8 @@ impl Names {
             closed_values names (trees (map (tree_at bank.now) terms.now))) }
     {
         let mut items = Vec::with_capacity(self.alloc, terms.len())?;
-        'each: for term in terms {
-            match self.value_of(bank, *term)? {
-                None => return Ok(None),
-                Some(value) => items.push(value)?,
-            }
+        if !self.add_values(bank, terms, &mut items)? {
+            return Ok(None);
         }
         Ok(Some(Values { items }))
     }

@@ -7,7 +7,7 @@ use Rattle.spec_clauses.specs.Resolvents.{Answer, NoUnifier, Large, Resolvents}
 use Rattle.spec_translation.specs.Translation.{LargeAt, IsTranslation}
 use Rattle.spec_certificates.specs.Certificate.{Certificate, bad_arguments, IsInShape, CoverRowHolds, GoalHolds, Numbered, numbered_from, Pair, pairs_of}
 use Rattle.spec_certificates.specs.Ruling.{Ruling, Shape, Translation, Cover, Closure, Goal, Rest, Shapes, Covers, Answered, Closures, Goals, NoneLeft, bad_ones, Obliged, IsRuled}
-use Rattle.cert_checker.specs.Stages.{AreShown, FirstUnshown, IsAnswerCovered, IsAnswerUncovered, AreClosed, FirstOpen, HasShape, AreInShape, FirstMisshapen}
+use Rattle.cert_stages.specs.Stages.{AreShown, FirstUnshown, IsAnswerCovered, IsAnswerUncovered, AreClosed, FirstOpen, HasShape, AreInShape, FirstMisshapen}
 use Rattle.cert_checker.specs.Reached.{clauses_of, HasShapes, IsTranslatedTo, HasCovered, HasClosed}
 
 -- shapes

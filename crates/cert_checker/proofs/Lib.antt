@@ -1,15 +1,5 @@
 pub mod Composing
-pub mod Walking
 pub mod Leftovers
-pub mod GoalArguments
-pub mod Nexts
-pub mod Fitting
-pub mod Pairing
-pub mod CoverRows
-pub mod Looking
-pub mod Lowered
-pub mod UnsolvedOnes
-pub mod Passing
 pub mod Reaching
 pub mod Proper
 pub mod Sufficing

@@ -16,17 +16,16 @@ use Rattle.query_derive.proofs.Deciding.{small_query}
 use Rattle.clause_translate.specs.Whole.{Translates, TranslatesTo, EndsAt}
 use Rattle.clause_translate.specs.declared.whole.Translated.{Translated}
 use Rattle.clause_translate.specs.declared.whole.Translated.TheVariants as made
-use Rattle.cert_checker.specs.Stages.{AreInShape, FirstMisshapen}
+use Rattle.cert_stages.specs.Stages.{AreInShape, FirstMisshapen}
 use Rattle.cert_checker.specs.Reached.{clauses_of, HasShapes, IsTranslatedTo, HasCovered, HasClosed}
-use Rattle.cert_checker.specs.Rulings.{ruling_of}
-use Rattle.cert_checker.specs.Shaping.{AreShaped}
+use Rattle.cert_stages.specs.Shaping.{AreShaped}
 use Rattle.clause_form.specs.Fit.{AreFit, clauses_at}
 use Rattle.clause_form.specs.Seen.{IdClause}
-use Rattle.cert_checker.specs.Answers.{numbered_at, IsShownSo, IsClosedSo}
-use Rattle.cert_checker.specs.declared.ruling.Ruling.{Ruling}
-use Rattle.cert_checker.specs.declared.ruling.Shown.TheVariants as shown_so
-use Rattle.cert_checker.specs.declared.ruling.Closed as closed
-use Rattle.cert_checker.specs.declared.ruling.Closed.TheVariants as closed_so
+use Rattle.cert_stages.specs.Answers.{numbered_at, closure_of, IsShownSo, IsClosedSo}
+use Rattle.cert_stages.specs.declared.shown.OpenPair.{OpenPair}
+use Rattle.cert_stages.specs.declared.shown.Shown.TheVariants as shown_so
+use Rattle.cert_stages.specs.declared.shown.Closed as closed
+use Rattle.cert_stages.specs.declared.shown.Closed.TheVariants as closed_so
 use Rattle.cert_checker.proofs.Composing.{shape_fails, translation_large, cover_fails, closure_fails}
 use Rattle.clause_form.proofs.Fit.{named_fit}
 
@@ -40,8 +39,8 @@ module _ (P : Protocol) (q : Query) (cert : Certificate) (all : List Term) (cs :
   pub pairs_reached : (row next : ℕ) (o : closed.Closed) → o ≡ closed_so.All next → IsClosedSo (clauses_at all cs) (pairs_of (numbered_at all cs) (numbered_at all cs)) cert.rows row o → HasCovered P q cert (drop row cert.rows) → HasClosed P q cert (drop next cert.rows)
   pairs_reached row next o e x reached = record { between = drop row cert.rows; covered = reached; closed = closed_as cert.rows row o (closed_so.All next) e x }
 
-  pub pairs_rule : (row : ℕ) (ruling : Ruling) (o : closed.Closed) → o ≡ closed_so.Except ruling → IsClosedSo (clauses_at all cs) (pairs_of (numbered_at all cs) (numbered_at all cs)) cert.rows row o → HasCovered P q cert (drop row cert.rows) → IsRuled P q cert (ruling_of ruling)
-  pairs_rule row ruling o e x reached = closure_fails P q cert (drop row cert.rows) (ruling_of ruling) reached (closed_as cert.rows row o (closed_so.Except ruling) e x)
+  pub pairs_rule : (row : ℕ) (pair : OpenPair) (o : closed.Closed) → o ≡ closed_so.Except pair → IsClosedSo (clauses_at all cs) (pairs_of (numbered_at all cs) (numbered_at all cs)) cert.rows row o → HasCovered P q cert (drop row cert.rows) → IsRuled P q cert (closure_of pair)
+  pairs_rule row pair o e x reached = closure_fails P q cert (drop row cert.rows) (closure_of pair) reached (closed_as cert.rows row o (closed_so.Except pair) e x)
 
 -- What cover rows show of the clauses of the translation.
 module _ (P : Protocol) (q : Query) (cert : Certificate) (given : List (Clause Term)) where

@@ -1,10 +1,3 @@
-pub mod Stages
 pub mod Reached
-pub mod Arguments
 pub mod Rulings
-pub mod Answers
-pub mod Checked
-pub mod Shaping
-pub mod Lowering
 pub mod Sufficing
-pub mod Unsolved

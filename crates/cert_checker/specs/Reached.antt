@@ -5,7 +5,7 @@ use Rattle.spec_terms.specs.Term.{Term}
 use Rattle.spec_clauses.specs.Fact.{Clause}
 use Rattle.spec_translation.specs.Translation.{Clauses, IsTranslation}
 use Rattle.spec_certificates.specs.Certificate.{Certificate, bad_arguments, CoverRowHolds, Numbered, numbered_from, pairs_of}
-use Rattle.cert_checker.specs.Stages.{AreShown, AreClosed, AreInShape}
+use Rattle.cert_stages.specs.Stages.{AreShown, AreClosed, AreInShape}
 
 -- a certificate's clauses with their numbers
 abbrev pub clauses_of : Certificate → List Numbered

@@ -17,19 +17,17 @@ ghost use Rattle.cert_checker.specs.declared.ruling.Ruling.TheVariants.{Accepted
 ghost use Rattle.cert_checker.specs.Rulings.{ruling_of};
 ghost use Rattle.clause_form.specs.Fit.{AreFit};
 ghost use Rattle.clause_form.specs.Seen.{AreClausesIn};
-ghost use Rattle.cert_checker.specs.Checked.{cert_in};
-ghost use Rattle.cert_checker.specs.Lowering.{AreNormalIn};
+ghost use Rattle.cert_stages.specs.Checked.{cert_in};
+ghost use Rattle.cert_stages.specs.Lowering.{AreNormalIn};
 ghost use Rattle.cert_checker.specs.Sufficing.{SolvedOnesSuffice};
 
 use crate::accepted_certificates_suffice;
-use crate::arguments::goal_arguments;
-use crate::checker::Checker;
-use crate::covering::are_covered;
 use crate::judging::judge;
-use crate::lowering::{are_unconstrained, low_clauses};
 use crate::ruling::Ruling;
-use crate::shaping::{copied, first_misshapen};
 use cert_form::Cert;
+use cert_stages::{
+    Checker, are_covered, are_unconstrained, copied, first_misshapen, goal_arguments, low_clauses,
+};
 use clause_resolve::normal_clauses_have_low_variables;
 use clause_translate::{Translated, translate};
 use pi_tree::Protocol;

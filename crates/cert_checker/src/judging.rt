@@ -10,17 +10,16 @@ ghost use Rattle.pi_tree.specs.Protocols.{protocol_of};
 ghost use Rattle.pi_tree.specs.Accessors.{IsThere};
 ghost use Rattle.pi_tree.specs.declared.accessors.Kind.TheVariants.{Query as OfQueries};
 ghost use Rattle.query_derive.specs.GoalRows.{OfQuery};
-ghost use Rattle.cert_checker.specs.Answers.{IsShownSo};
+ghost use Rattle.cert_stages.specs.Answers.{IsShownSo};
 ghost use Rattle.cert_checker.specs.Reached.{IsTranslatedTo, HasCovered, HasClosed};
 ghost use Rattle.cert_checker.specs.Rulings.{ruling_of};
 ghost use Rattle.clause_form.specs.Fit.{AreFit};
-ghost use Rattle.cert_checker.specs.Checked.{cert_in};
+ghost use Rattle.cert_stages.specs.Checked.{cert_in};
 
-use crate::checker::Checker;
-use crate::closing::are_closed;
 use crate::left_over::left_over;
-use crate::ruling::{Closed, Ruling, Shown};
-use crate::satisfying::are_satisfied;
+use crate::pairing::are_closed;
+use crate::ruling::Ruling;
+use cert_stages::{Checker, Closed, Shown, are_satisfied};
 use std::alloc::AllocError;
 use term_tree::Bank;
 
@@ -57,7 +56,7 @@ fn judge_pairs<B: Bank>(
 {
     match are_closed(bank, checker, row)? {
         Closed::All(next) => judge_goals(bank, checker, next),
-        Closed::Except(ruling) => Ok(ruling),
+        Closed::Except(pair) => Ok(Ruling::Closure(pair.solved, pair.unsolved, pair.resolvent)),
     }
 }
 

@@ -3,11 +3,11 @@
 ghost use Rattle.std.specs.Prelude.{List, drop};
 ghost use Rattle.spec_terms.specs.Term.{Term};
 ghost use Rattle.spec_certificates.specs.Ruling.{NoneLeft};
-ghost use Rattle.cert_checker.specs.Checked.{cert_in};
+ghost use Rattle.cert_stages.specs.Checked.{cert_in};
 ghost use Rattle.cert_checker.specs.Rulings.{ruling_of};
 
-use crate::checker::Checker;
 use crate::ruling::Ruling;
+use cert_stages::Checker;
 
 /// What is ruled where all obligations are met by the rows before these places: whether a row is left over.
 pub(crate) fn left_over(checker: &Checker<'_>, row: usize, goal: usize) -> Ruling

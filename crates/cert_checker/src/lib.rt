@@ -11,23 +11,16 @@ ghost use Rattle.spec_certificates.specs.Certificate.{Certificate, bad_arguments
 ghost use Rattle.spec_certificates.specs.Certificate.{CoverRowHolds, GoalHolds};
 ghost use Rattle.spec_certificates.specs.Ruling as certificates;
 ghost use Rattle.spec_certificates.specs.Ruling.{Accepted, NoneLeft, bad_ones, IsRuled};
-ghost use Rattle.cert_checker.specs.Stages.{FirstMisshapen, FirstUnshown, AreShown, FirstOpen};
+ghost use Rattle.cert_stages.specs.Stages.{FirstMisshapen, FirstUnshown, AreShown, FirstOpen};
 ghost use Rattle.cert_checker.specs.Reached.{clauses_of, HasShapes, IsTranslatedTo};
 ghost use Rattle.cert_checker.specs.Reached.{HasCovered, HasClosed};
 ghost use Rattle.cert_checker.specs.Sufficing.{SolvedOnesSuffice};
 
-mod arguments;
-mod checker;
 mod checking;
-mod closing;
-mod covering;
 mod judging;
 mod left_over;
-mod lowering;
+mod pairing;
 pub mod ruling;
-mod satisfying;
-mod shaping;
-mod unsolved;
 
 pub use crate::checking::{check_cert, check_cert_in, check_shared};
 pub use crate::ruling::Ruling;

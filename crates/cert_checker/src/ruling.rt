@@ -1,4 +1,4 @@
-//! What is ruled of a certificate, and of its stages.
+//! What is ruled of a certificate.
 
 /// What is ruled of a certificate: that it is accepted, or the first obligation that isn't met. Clauses, resolvents and rows
 /// are numbered from 1.
@@ -20,22 +20,4 @@ pub enum Ruling {
     Extra(u64),
     /// The protocol and the query are too large to be translated, at this point.
     Translation(u32),
-}
-
-/// What rows show of clauses.
-#[derive(Clone, Copy)]
-pub(crate) enum Shown {
-    /// Each clause is shown by a row, and the rows from this place on are left.
-    All(usize),
-    /// The clause of this number is the first that the next row doesn't show.
-    Except(u64),
-}
-
-/// What rows show of pairs of clauses.
-#[derive(Clone, Copy)]
-pub(crate) enum Closed {
-    /// The resolvents of each pair are covered, and the rows from this place on are left.
-    All(usize),
-    /// That is ruled of the first pair of which they aren't.
-    Except(Ruling),
 }

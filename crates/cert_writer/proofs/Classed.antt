@@ -20,10 +20,9 @@ use Rattle.fact_fingerprint.specs.Seen.{fingerprint_seen}
 use Rattle.fact_classes.specs.declared.classes.Classes.{Classes}
 use Rattle.fact_classes.specs.Classes.{class_of, listed, IsEmptyClasses, IsClassListed}
 use Rattle.fact_classes.proofs.Classing.{classes_apart}
-use Rattle.clause_saturate.specs.Numbers.{IsAmong, IsAscending}
-use Rattle.clause_saturate.proofs.Numbers.{among_push, among_last, push_among, push_ascends, among_left, among_right, among_either}
-use Rattle.clause_saturate.proofs.Classing.{one_class}
-use Rattle.clause_saturate.proofs.Scanning.{rising, among_place}
+use Rattle.log_entries.specs.Numbers.{IsAmong, IsAscending}
+use Rattle.log_entries.proofs.Numbers.{among_push, among_last, push_among, push_ascends, among_left, among_right, among_either, rising, among_place}
+use Rattle.log_entries.proofs.Classing.{one_class}
 use Rattle.cert_writer.specs.declared.covering.Found.{Found}
 use Rattle.cert_writer.specs.declared.writer.Writer.{Writer}
 use Rattle.cert_writer.specs.Ready.{conclusion_print, IsReady}

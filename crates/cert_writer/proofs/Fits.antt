@@ -9,10 +9,10 @@ use Rattle.pi_tree.specs.Accessors.{IsThere}
 use Rattle.pi_tree.specs.declared.accessors.Kind.TheVariants.{Query as OfQueries}
 use Rattle.clause_form.specs.Seen.{AreClausesIn, IdClause}
 use Rattle.query_derive.specs.GoalRows.{OfQuery}
-use Rattle.clause_saturate.specs.declared.log.Entry.{Entry}
+use Rattle.log_entries.specs.declared.log.Entry.{Entry}
 use Rattle.clause_form.specs.Fit.{AreFit, clauses_at}
-use Rattle.clause_saturate.specs.Logs.{IsClosedLog}
-use Rattle.clause_saturate.specs.Beating.{clauses_of}
+use Rattle.log_entries.specs.Logs.{IsClosedLog}
+use Rattle.log_entries.specs.Beating.{clauses_of}
 use Rattle.cert_writer.specs.Living.{live_ids}
 use Rattle.cert_writer.specs.Given.{AreSmall}
 use Rattle.cert_writer.proofs.Telling.{translation_small, log_fit, live_fit}

@@ -11,7 +11,7 @@ use Rattle.spec_saturation.proofs.Pairs.{has_numbered}
 use Rattle.spec_verdicts.proofs.Building.{numbers_length}
 use Rattle.clause_form.specs.Seen.{clause_at, IdClause}
 use Rattle.clause_form.specs.Fit.{AreFit, clauses_at}
-use Rattle.clause_saturate.proofs.Fitting.{numbered_given}
+use Rattle.log_entries.proofs.Placing.{numbered_given}
 
 module _ (all : List Term) (cs : List IdClause) where
   pub item_at : (i : ℕ) (c : IdClause) → c ≡ get_or cs i c → i < length cs → slice_get (clauses_at all cs) i ≡ Some (clause_at all c)

@@ -18,9 +18,9 @@ use Rattle.spec_terms.proofs.Replace.{some_same}
 use Rattle.clause_form.specs.Seen.{clause_at, AreClausesIn, IdClause}
 use Rattle.clause_form.proofs.Copying.{NamesClause-grows}
 use Rattle.clause_form.specs.Fit.{clauses_at}
-use Rattle.clause_saturate.specs.declared.log.Entry.{Entry}
-use Rattle.clause_saturate.specs.Logs.{is_unbeaten}
-use Rattle.clause_saturate.specs.Beating.{clauses_of}
+use Rattle.log_entries.specs.declared.log.Entry.{Entry}
+use Rattle.log_entries.specs.Logs.{is_unbeaten}
+use Rattle.log_entries.specs.Beating.{clauses_of}
 use Rattle.cert_writer.specs.Living.{live_ids}
 use Rattle.cert_writer.specs.declared.known.KnownRows.{KnownRows}
 use Rattle.cert_writer.specs.Adding.{AddsPairs, with_number, pairs_if_solved}

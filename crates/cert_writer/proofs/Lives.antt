@@ -4,8 +4,8 @@ use Rattle.std.specs.Prelude.{slice_get, filter}
 use Rattle.std.proofs.lemmas.List.{map-append}
 use Rattle.spec_verdicts.proofs.Building.{take_next, take_past}
 use Rattle.clause_form.proofs.Counting.{filter-append}
-use Rattle.clause_saturate.specs.declared.log.Entry.{Entry}
-use Rattle.clause_saturate.specs.Logs.{is_unbeaten}
+use Rattle.log_entries.specs.declared.log.Entry.{Entry}
+use Rattle.log_entries.specs.Logs.{is_unbeaten}
 use Rattle.cert_writer.specs.Living.{live_ids}
 
 pub live_one : (e : Entry) → e.by ≡ None → live_ids (e ∷ []) ≡ e.clause ∷ []

@@ -14,8 +14,8 @@ use Rattle.spec_verdicts.proofs.Goals.{goal_satisfies}
 use Rattle.spec_verdicts.proofs.Building.{goals_append, append_none, take_next, take_past, bad_append}
 use Rattle.clause_form.specs.Seen.{clause_at}
 use Rattle.clause_form.proofs.Counting.{filter-append}
-use Rattle.clause_saturate.specs.declared.log.Entry.{Entry}
-use Rattle.clause_saturate.specs.Logs.{is_unbeaten, live_clauses}
+use Rattle.log_entries.specs.declared.log.Entry.{Entry}
+use Rattle.log_entries.specs.Logs.{is_unbeaten, live_clauses}
 use Rattle.cert_writer.specs.Goals.{is_due_at, AddsGoal, IsUnmetEntry, IsFirstUnmetEntry}
 
 module _ (all : List Term) where

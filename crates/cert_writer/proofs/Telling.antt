@@ -23,11 +23,11 @@ use Rattle.spec_saturation.specs.End.{IsLog}
 use Rattle.spec_verdicts.specs.Verdict.{IsUnmet, IsFirstUnmet}
 use Rattle.spec_verdicts.proofs.Entries.{given_shape, entries_shape}
 use Rattle.clause_form.specs.Seen.{clause_at, AreClausesIn, IdClause}
-use Rattle.clause_saturate.specs.declared.log.Entry.{Entry}
+use Rattle.log_entries.specs.declared.log.Entry.{Entry}
 use Rattle.clause_form.specs.Fit.{AreFit, clauses_at}
-use Rattle.clause_saturate.specs.Logs.{TellsEntry, TellEntries, TellLog, IsFirstSubsumer, is_unbeaten, live_clauses}
-use Rattle.clause_saturate.specs.Beating.{clauses_of}
-use Rattle.clause_saturate.proofs.Telling.{unbeaten_none, none_unbeaten}
+use Rattle.log_entries.specs.Logs.{TellsEntry, TellEntries, TellLog, IsFirstSubsumer, is_unbeaten, live_clauses}
+use Rattle.log_entries.specs.Beating.{clauses_of}
+use Rattle.log_entries.proofs.Telling.{unbeaten_none, none_unbeaten}
 use Rattle.cert_writer.specs.Living.{live_ids}
 use Rattle.cert_writer.specs.Given.{AreSmall}
 use Rattle.cert_writer.specs.Goals.{is_due_at, IsUnmetEntry, IsFirstUnmetEntry}

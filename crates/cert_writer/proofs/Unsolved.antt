@@ -12,9 +12,8 @@ use Rattle.clause_form.specs.Fit.{clauses_at}
 use Rattle.clause_form.specs.Seen.{IdClause}
 use Rattle.fact_fingerprint.specs.Seen.{fingerprint_seen}
 use Rattle.fact_fingerprint.proofs.Telling.{prints_count}
-use Rattle.clause_saturate.specs.Numbers.{IsAmong, IsAscending}
-use Rattle.clause_saturate.proofs.Numbers.{among_left, among_last, push_among}
-use Rattle.clause_saturate.proofs.Scanning.{place_among}
+use Rattle.log_entries.specs.Numbers.{IsAmong, IsAscending}
+use Rattle.log_entries.proofs.Numbers.{among_left, among_last, push_among, place_among}
 use Rattle.cert_writer.specs.declared.closing.Unsolved.{Unsolved}
 use Rattle.cert_writer.specs.Unsolved.{some_places, AreUnsolved}
 use Rattle.cert_writer.specs.Adding.{AddsPairs, pairs_of_two, pairs_of_one}

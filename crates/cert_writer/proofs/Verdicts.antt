@@ -16,9 +16,9 @@ use Rattle.spec_saturation.specs.Live.{AreLive, MustBeCovered, MeetsCovers}
 use Rattle.spec_saturation.proofs.Pairs.{closed_covers}
 use Rattle.spec_verdicts.specs.FirstRows.{AreFirstGoals, bad_clauses}
 use Rattle.spec_verdicts.specs.Verdict.{Proved, Unmet, IsVerdict}
-use Rattle.clause_saturate.specs.declared.log.Entry.{Entry}
-use Rattle.clause_saturate.specs.Logs.{TellLog, IsClosedLog, live_clauses}
-use Rattle.clause_saturate.proofs.Living.{tell_live}
+use Rattle.log_entries.specs.declared.log.Entry.{Entry}
+use Rattle.log_entries.specs.Logs.{TellLog, IsClosedLog, live_clauses}
+use Rattle.log_entries.proofs.Living.{tell_live}
 use Rattle.cert_writer.specs.Living.{live_ids}
 use Rattle.clause_form.specs.Fit.{clauses_at}
 use Rattle.clause_form.specs.Seen.{IdClause}

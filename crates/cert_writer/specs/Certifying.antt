@@ -9,8 +9,8 @@ use Rattle.spec_certificates.specs.Certificate.{Certificate}
 use Rattle.spec_certificates.specs.Ruling.{Accepted, IsRuled}
 use Rattle.spec_saturation.specs.Key as offered
 use Rattle.spec_verdicts.specs.Verdict.{Proved, Unmet, IsVerdict}
-use Rattle.clause_saturate.specs.declared.log.Entry.{Entry}
-use Rattle.clause_saturate.specs.Logs.{TellLog}
+use Rattle.log_entries.specs.declared.log.Entry.{Entry}
+use Rattle.log_entries.specs.Logs.{TellLog}
 use Rattle.cert_writer.specs.Adding.{AreRowsOf}
 use Rattle.cert_writer.specs.declared.certified.Certified.{Certified}
 use Rattle.cert_writer.specs.declared.certified.Certified.TheVariants.{Cert, Unsatisfied}

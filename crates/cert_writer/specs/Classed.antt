@@ -7,7 +7,7 @@ use Rattle.spec_fingerprints.specs.Fingerprints as print
 use Rattle.clause_form.specs.Seen.{clause_at, IdClause}
 use Rattle.fact_classes.specs.declared.classes.Classes.{Classes}
 use Rattle.fact_classes.specs.Classes.{class_of, listed}
-use Rattle.clause_saturate.specs.Numbers.{IsAmong, IsAscending}
+use Rattle.log_entries.specs.Numbers.{IsAmong, IsAscending}
 use Rattle.cert_writer.specs.declared.covering.Found.{Found}
 
 -- they are places, ascending, among them those of the fingerprints of the class

@@ -7,8 +7,8 @@ use Rattle.spec_clauses.specs.Selection.{is_solved}
 use Rattle.spec_translation.specs.Satisfied.{is_bad, IsSatisfied}
 use Rattle.spec_verdicts.specs.FirstRows.{IsFirstGoal, AreFirstGoals, bad_clauses}
 use Rattle.clause_form.specs.Seen.{clause_at}
-use Rattle.clause_saturate.specs.declared.log.Entry.{Entry}
-use Rattle.clause_saturate.specs.Logs.{is_unbeaten, live_clauses}
+use Rattle.log_entries.specs.declared.log.Entry.{Entry}
+use Rattle.log_entries.specs.Logs.{is_unbeaten, live_clauses}
 use Rattle.cert_writer.specs.declared.satisfying.Goals.{Goals}
 use Rattle.cert_writer.specs.declared.satisfying.Goals.TheVariants.{Rows, Unsatisfied}
 

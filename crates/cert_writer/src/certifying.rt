@@ -13,7 +13,7 @@ ghost use Rattle.pi_tree.specs.declared.accessors.Kind.TheVariants.{Query as OfQ
 ghost use Rattle.clause_form.specs.Seen.{AreClausesIn};
 ghost use Rattle.query_derive.specs.GoalRows.{OfQuery};
 ghost use Rattle.clause_form.specs.Fit.{clauses_at};
-ghost use Rattle.clause_saturate.specs.Logs.{IsClosedLog};
+ghost use Rattle.log_entries.specs.Logs.{IsClosedLog};
 ghost use Rattle.cert_writer.specs.Ready.{IsReady};
 ghost use Rattle.cert_writer.specs.Adding.{MustClose, AreRowsOf};
 ghost use Rattle.cert_writer.specs.Known.{IsKnown, BeginWith};

@@ -13,7 +13,7 @@ ghost use Rattle.clause_form.specs.Fit.{AreFit, clauses_at};
 ghost use Rattle.fact_fingerprint.specs.Seen.{fingerprint_seen};
 ghost use Rattle.cert_writer.specs.Adding.{AddsRows};
 ghost use Rattle.fact_classes.specs.Classes.{listed};
-ghost use Rattle.clause_saturate.specs.Numbers.{IsAmong, IsAscending};
+ghost use Rattle.log_entries.specs.Numbers.{IsAmong, IsAscending};
 ghost use Rattle.cert_writer.specs.Classed.{AreClassed, IsFirstAmong};
 ghost use Rattle.cert_writer.specs.Ready.{conclusion_print, IsReady};
 ghost use Rattle.cert_writer.specs.Given.{AreSmall};

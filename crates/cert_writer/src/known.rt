@@ -4,7 +4,7 @@ ghost use Rattle.std.specs.Prelude.{◌≡◌, ◌++◌, List, true, length, IfO
 ghost use Rattle.std.specs.List.{AllByRecursion};
 ghost use Rattle.spec_terms.specs.Term.{Term};
 ghost use Rattle.clause_form.specs.Seen.{AreClausesIn};
-ghost use Rattle.clause_saturate.specs.Beating.{clauses_of};
+ghost use Rattle.log_entries.specs.Beating.{clauses_of};
 ghost use Rattle.cert_writer.specs.Known.{BeginsWithin, IsKnown, PutsKnown};
 
 use crate::living::live_of;

@@ -10,7 +10,7 @@ ghost use Rattle.pi_tree.specs.declared.accessors.Kind.TheVariants.{Query as OfQ
 ghost use Rattle.clause_form.specs.Seen.{clause_at, IsClauseIn};
 ghost use Rattle.query_derive.specs.GoalRows.{OfQuery};
 ghost use Rattle.clause_form.specs.Fit.{IsFit, AreFit};
-ghost use Rattle.clause_saturate.specs.Beating.{clauses_of};
+ghost use Rattle.log_entries.specs.Beating.{clauses_of};
 ghost use Rattle.cert_writer.specs.Goals.{is_due_at, AddsGoal, IsUnmetEntry, AreGoalsOf};
 
 use crate::writer::Writer;

@@ -35,8 +35,8 @@ use Rattle.clause_resolve.specs.Answers.{Gives}
 use Rattle.clause_resolve.specs.Met.{IsMet, IsMetBy}
 use Rattle.clause_resolve.proofs.Answering.{clause_at-later}
 use Rattle.clause_resolve.proofs.Low.{low_terms}
-use Rattle.clause_saturate.specs.declared.log.PlainEntry.{PlainEntry}
-use Rattle.clause_saturate.specs.PlainLogs.{TellsPlain, TellPlainLog}
+use Rattle.log_entries.specs.declared.log.PlainEntry.{PlainEntry}
+use Rattle.log_entries.specs.PlainLogs.{TellsPlain, TellPlainLog}
 use Rattle.spec_attack_runs.specs.Instance.{Pending, Meeting, Meets, closing, next_after, telling_parts, own_variables, met_variables, kept_variables, IsResolved}
 use Rattle.clause_instances.specs.declared.instance.Pending as held
 use Rattle.clause_instances.specs.declared.resolved.Descends.{Descends}

@@ -19,11 +19,11 @@ use Rattle.spec_saturation.specs.Key.{Key, key, Entry}
 use Rattle.spec_attack_runs.specs.Source.{Source}
 use Rattle.spec_attack_runs.specs.Instance.{Pending, Meeting, Meets, closing, next_after, telling_parts, met_variables, solved_of, unsolved_of, parent, IsResolved}
 use Rattle.spec_attack_runs.proofs.OneDescent.{descents_same}
-use Rattle.clause_saturate.specs.declared.log.Origin.{Origin}
-use Rattle.clause_saturate.specs.declared.log.Origin.TheVariants.{Given, Resolvent}
-use Rattle.clause_saturate.specs.declared.log.PlainEntry.{PlainEntry}
-use Rattle.clause_saturate.specs.Logs.{IsOrigin}
-use Rattle.clause_saturate.specs.PlainLogs.{TellsPlain, TellPlainFrom, TellPlainLog}
+use Rattle.log_entries.specs.declared.log.Origin.{Origin}
+use Rattle.log_entries.specs.declared.log.Origin.TheVariants.{Given, Resolvent}
+use Rattle.log_entries.specs.declared.log.PlainEntry.{PlainEntry}
+use Rattle.log_entries.specs.Logs.{IsOrigin}
+use Rattle.log_entries.specs.PlainLogs.{TellsPlain, TellPlainFrom, TellPlainLog}
 use Rattle.clause_instances.specs.declared.resolved.Descends.{Descends}
 use Rattle.clause_instances.specs.Derivations.{HasNormedLog}
 use Rattle.clause_instances.specs.Descents.{IsGivenAt, IsResolvedAt, IsNotGiven, IsNotResolved}

@@ -5,7 +5,7 @@ use Rattle.spec_terms.specs.Term.{Term}
 use Rattle.spec_clauses.specs.Norm.{IsNormal}
 use Rattle.spec_clauses.specs.Limits.{IsWithinLimit}
 use Rattle.spec_saturation.specs.Key.{Entry}
-use Rattle.clause_saturate.specs.declared.log.PlainEntry.{PlainEntry}
+use Rattle.log_entries.specs.declared.log.PlainEntry.{PlainEntry}
 use Rattle.spec_attack_runs.specs.Source.{Source}
 use Rattle.spec_attack_runs.specs.Instance.{ComesFrom}
 use Rattle.spec_attack_runs.specs.Attack.{most_instances}

@@ -3,8 +3,8 @@ use Rattle.std.specs.Prelude.{◌≡◌, ℕ, Bool, true, false, Option, None, S
 use Rattle.spec_terms.specs.Term.{Term}
 use Rattle.spec_calculus.specs.Points.{numbered}
 use Rattle.spec_saturation.specs.Key.{Entry}
-use Rattle.clause_saturate.specs.declared.log.Origin.TheVariants.{Resolvent}
-use Rattle.clause_saturate.specs.Logs.{IsOrigin}
+use Rattle.log_entries.specs.declared.log.Origin.TheVariants.{Resolvent}
+use Rattle.log_entries.specs.Logs.{IsOrigin}
 use Rattle.spec_attack_runs.specs.Source.{Source}
 use Rattle.spec_attack_runs.specs.Instance.{Pending, IsGiven, IsResolved}
 use Rattle.clause_instances.specs.declared.expansion.Expanded.{Expanded}

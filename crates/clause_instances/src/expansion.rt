@@ -3,7 +3,7 @@
 ghost use Rattle.std.specs.Prelude.{◌≡◌, List, [], ◌∷◌, IfOk};
 ghost use Rattle.spec_saturation.specs.Key.{Entry};
 ghost use Rattle.term_tree.specs.Bank.{AreKnown, Grows};
-ghost use Rattle.clause_saturate.specs.PlainLogs.{TellPlainLog};
+ghost use Rattle.log_entries.specs.PlainLogs.{TellPlainLog};
 ghost use Rattle.clause_instances.specs.Derivations.{HasNormedLog, AreInstancesOf};
 ghost use Rattle.clause_instances.specs.Descents.{IsGivenAt, IsResolvedAt, IsExpandedTo, IsExpandedIn, AddsExpanded};
 ghost use Rattle.clause_instances.specs.Instances.{AreToldIn, pending_at};
@@ -13,7 +13,7 @@ use crate::instance::{
     Derivation, Expansion, Instance, Instances, MOST_INSTANCES, Pending, no_ids,
 };
 use crate::resolved::{Descends, entry, parents_of};
-use clause_saturate::Origin;
+use log_entries::Origin;
 use std::alloc::{AllocError, Global};
 use term_store::SharedBank;
 

@@ -47,7 +47,7 @@ fn variables_of(
     match kept? {
         None => Ok(None),
         Some(mut variables) => {
-            add_source_variables(alloc, &source.raw, &source.action, &mut variables)?;
+            add_source_variables(alloc, source.raw(), source.action(), &mut variables)?;
             Ok(Some(variables))
         }
     }
@@ -96,7 +96,7 @@ fn kept_of(
         option_map (λ numbers. distinct nat_eq numbers.items) found ≡
         option_map kept_of_part (part_of source.now)) }
 {
-    let raw = copy_into(alloc, scratch, &source.raw)?;
+    let raw = copy_into(alloc, scratch, source.raw())?;
     kept_within(alloc, scratch, &raw, source.part)
 }
 
@@ -211,10 +211,10 @@ fn closed_source(
     ensures closed { (s : Subst) → Closes bank.old closing.now s →
         IfOk result (λ found. IsClosedSource bank.new s source.now index found) }
 {
-    let Some(supposed) = supposed_of(alloc, bank, closing, &source.raw)? else {
+    let Some(supposed) = supposed_of(alloc, bank, closing, source.raw())? else {
         return Ok(None);
     };
-    let Some((messages, sessions)) = way_of(alloc, bank, closing, &source.action)? else {
+    let Some((messages, sessions)) = way_of(alloc, bank, closing, source.action())? else {
         return Ok(None);
     };
     Ok(Some(Instance {

@@ -3,8 +3,8 @@
 ghost use Rattle.std.specs.Prelude.{◌≡◌, []};
 
 use clause_form::Ids;
-use clause_saturate::PlainLog;
 use clause_sources::Sources;
+use log_entries::PlainLog;
 use std::alloc::Global;
 use std::marker::Model;
 use term_store::SharedBank;

@@ -1,6 +1,6 @@
 //! The parents of a resolvent.
 
-ghost use Rattle.std.specs.Prelude.{◌≡◌, ◌-◌, ◌≤◌, ◌++◌, List, true, false, cond, is_some, map, flat_map, nat_eq, option_map, IfOk, MatchOption};
+ghost use Rattle.std.specs.Prelude.{◌≡◌, ◌-◌, ◌≤◌, ◌++◌, List, true, false, cond, is_some, map, flat_map, nat_eq, option_map, IfOk, MatchOption, OnOk};
 ghost use Rattle.spec_calculus.specs.Bounds.{most_symbols};
 ghost use Rattle.spec_calculus.specs.Points.{numbered};
 ghost use Rattle.spec_terms.specs.Binding.{resolved};
@@ -10,13 +10,14 @@ ghost use Rattle.spec_clauses.specs.Norm.{norm as norm_of, distinct, IsNormal};
 ghost use Rattle.spec_clauses.specs.Variables.{leaves, clause_variables, AreBelow};
 ghost use Rattle.spec_saturation.specs.Key.{Entry};
 ghost use Rattle.spec_translation.specs.Visit.{is_large_term};
-ghost use Rattle.spec_attack_runs.specs.Instance.{kept_variables as kept_of_part, telling_parts};
+ghost use Rattle.spec_attack_runs.specs.Instance.{kept_variables as kept_of_part, telling_parts, closing as closing_of, next_after};
 ghost use Rattle.term_tree.specs.Bank.{tree_at, AreKnown, Names, Grows};
 ghost use Rattle.unify_match.specs.Seen.{seen, IsReady};
 ghost use Rattle.clause_form.specs.Fit.{HasLowVariables, IsLowWithinLimit};
 ghost use Rattle.clause_form.specs.Seen.{clause_at, IsClauseIn, NamesClause};
 ghost use Rattle.clause_resolve.specs.Met.{IsMet};
-ghost use Rattle.clause_saturate.specs.PlainLogs.{TellPlainLog};
+ghost use Rattle.log_entries.specs.PlainLogs.{TellPlainLog};
+ghost use Rattle.clause_instances.specs.Closing.{AreClosed, AreBothIn};
 ghost use Rattle.clause_instances.specs.Derivations.{HasNormedLog};
 ghost use Rattle.clause_instances.specs.Parents.{NamesPart, own_terms as own_terms_of, AreOwnTerms, meeting_at, IsDescentOf, IsMeetingBy, DescendsBy};
 ghost use Rattle.clause_instances.specs.Descents.{AreParentsOf, AreParentsIn, IsResolvedAt};
@@ -30,10 +31,10 @@ use clause_form::{
     variables_of,
 };
 use clause_resolve::{Met, meet, set_apart, what_is_apart_outlasts_growth};
-use clause_saturate::PlainEntry;
 use clause_sources::read_trees;
 use limits::MOST_SYMBOLS;
 use literal_selection::selected;
+use log_entries::PlainEntry;
 use std::alloc::{AllocError, Global};
 use term_store::SharedBank;
 use term_tree::{Bank, Id};
@@ -388,6 +389,33 @@ pub(crate) struct Descends {
     pub unsolved: usize,
 }
 
+/// The terms of both parents, closed, where the first variables get the given terms, and each further one the next name, from the
+/// number on, which becomes that of the next name; none where one of them is over the limit of size. On `Err` the bank may have grown.
+fn closed_parents(
+    alloc: Global,
+    bank: &mut SharedBank,
+    found: Descent,
+    given: &[Id],
+    number: &mut u32,
+) -> Result<Option<(Ids, Ids)>, AllocError>
+    requires { AreKnown bank.old given.now }
+    ensures grows { Grows bank.old bank.new }
+    ensures known { IfOk result (λ both. AreBothIn bank.new both) }
+    ensures closed { IfOk result (λ both. AreClosed bank.new
+        (closing_of (map (tree_at bank.old) given.now) number.old found.variables.items)
+        found.lefts found.rights both) }
+    ensures next { OnOk result (number.new ≡ next_after
+        (map (tree_at bank.old) given.now) number.old found.variables.items) }
+{
+    let Descent {
+        variables,
+        lefts,
+        rights,
+    } = found;
+    let closing = Closing::new(alloc, bank, variables, given, number)?;
+    closing.both_closed(alloc, bank, &lefts, &rights)
+}
+
 /// The parents of a resolvent with the pending terms, the solved one first; none where it isn't one of theirs, or where a term is
 /// over the limit of size. On `Err` the bank may have grown.
 pub(crate) fn parents_of(
@@ -425,14 +453,8 @@ pub(crate) fn parents_of(
     else {
         return Ok(None);
     };
-    let Descent {
-        variables,
-        lefts,
-        rights,
-    } = found;
     let terms = &pending.terms;
-    let closing = Closing::new(alloc, bank, variables, &terms.items, next)?;
-    let Some((first, second)) = closing.both_closed(alloc, bank, &lefts, &rights)? else {
+    let Some((first, second)) = closed_parents(alloc, bank, found, &terms.items, next)? else {
         return Ok(None);
     };
     let left = Pending {

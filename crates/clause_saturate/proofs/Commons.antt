@@ -17,19 +17,19 @@ use Rattle.spec_saturation.proofs.Moving.{below_all, self_not_before}
 use Rattle.term_tree.specs.Bank.{Grows}
 use Rattle.clause_form.specs.Seen.{clause_at, IdClause}
 use Rattle.clause_form.specs.Fit.{AreFit}
-use Rattle.clause_saturate.specs.declared.log.Entry.{Entry}
-use Rattle.clause_saturate.specs.declared.walk.Live.{Live}
-use Rattle.clause_saturate.specs.declared.walk.Walk.{Walk}
+use Rattle.log_entries.specs.declared.log.Entry.{Entry}
+use Rattle.log_entries.specs.declared.walk.Live.{Live}
+use Rattle.log_entries.specs.declared.walk.Walk.{Walk}
 use Rattle.clause_saturate.specs.declared.common.Common.{Common}
-use Rattle.clause_saturate.specs.Logs.{TellLog, IsSpentLog, IsLargeLog}
-use Rattle.clause_saturate.specs.Live.{AreListed, IsSameLive}
-use Rattle.clause_saturate.specs.Walked.{IsTask, IsWalked, HasSpent, HasLarge}
+use Rattle.log_entries.specs.Logs.{TellLog, IsSpentLog, IsLargeLog}
+use Rattle.log_entries.specs.Live.{AreListed, IsSameLive}
+use Rattle.log_walks.specs.Walked.{IsTask, IsWalked, HasSpent, HasLarge}
 use Rattle.clause_saturate.specs.Common.{Shared, task_of, AreProper, begun_log, begun_size, IsCommonOf, IsSpentCommon, IsLargeCommon}
-use Rattle.clause_saturate.proofs.Fitting.{fit_normal, fit_small, walked_grows}
-use Rattle.clause_saturate.proofs.Found.{front_grows}
-use Rattle.clause_saturate.proofs.Giving.{goal_task, numbered_goal}
-use Rattle.clause_saturate.proofs.Listing.{listed_copied}
-use Rattle.clause_saturate.proofs.Telling.{log_length}
+use Rattle.log_walks.proofs.Fitting.{fit_normal, fit_small, walked_grows}
+use Rattle.log_entries.proofs.Placing.{front_grows, numbered_goal}
+use Rattle.log_walks.proofs.Giving.{goal_task}
+use Rattle.log_entries.proofs.Listing.{listed_copied}
+use Rattle.log_entries.proofs.Telling.{log_length}
 use Rattle.term_tree.proofs.BankLaws.{Grows-length}
 
 take_whole : (xs : List Term) (n : ℕ) → n ≡ length xs → take n xs ≡ xs

@@ -10,19 +10,19 @@ use Rattle.spec_saturation.specs.Key as offered
 use Rattle.spec_saturation.specs.End as ending
 use Rattle.spec_saturation.specs.Common.{with_goal, IsCommonLog}
 use Rattle.spec_saturation.specs.Common as shared_log
-use Rattle.clause_saturate.specs.declared.log.Entry.{Entry}
-use Rattle.clause_saturate.specs.declared.log.Saturated.{Saturated}
-use Rattle.clause_saturate.specs.declared.log.Saturated.TheVariants as whole
-use Rattle.clause_saturate.specs.declared.walk.Stop.{Stop}
-use Rattle.clause_saturate.specs.declared.walk.Stop.TheVariants as stopping
+use Rattle.log_entries.specs.declared.log.Entry.{Entry}
+use Rattle.log_entries.specs.declared.log.Saturated.{Saturated}
+use Rattle.log_entries.specs.declared.log.Saturated.TheVariants as whole
+use Rattle.log_walks.specs.declared.stops.Stop.{Stop}
+use Rattle.log_walks.specs.declared.stops.Stop.TheVariants as stopping
 use Rattle.clause_saturate.specs.declared.common.Common.{Common}
 use Rattle.clause_saturate.specs.declared.common.Begun.{Begun}
 use Rattle.clause_saturate.specs.declared.common.Begun.TheVariants.{Ready, Spent, Large}
 use Rattle.clause_saturate.specs.declared.common.End.{End}
 use Rattle.clause_saturate.specs.declared.common.End.TheVariants as end
-use Rattle.clause_saturate.specs.Logs.{IsSolvedAt, TellsEntry, TellLog}
-use Rattle.clause_saturate.specs.Live.{AreListed}
-use Rattle.clause_saturate.specs.Walked.{Task}
+use Rattle.log_entries.specs.Logs.{IsSolvedAt, TellsEntry, TellLog}
+use Rattle.log_entries.specs.Live.{AreListed}
+use Rattle.log_walks.specs.Walked.{Task}
 
 -- what all logs share: the given clauses but the goal, and how many entries there may be
 pub record Shared : Type 0 where

@@ -1,12 +1,1 @@
-pub mod Codes
-pub mod Logs
-pub mod Beating
-pub mod Ends
-pub mod Numbers
-pub mod Classes
-pub mod Live
-pub mod Walked
 pub mod Common
-pub mod Pairs
-pub mod Plain
-pub mod PlainLogs

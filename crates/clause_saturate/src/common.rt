@@ -3,8 +3,7 @@
 ghost use Rattle.std.specs.Prelude.{◌≡◌};
 ghost use Rattle.clause_saturate.specs.Common.{log_of};
 
-use crate::log::{Entry, Log};
-use crate::walk::Live;
+use log_entries::{Entry, Live, Log};
 use std::alloc::Global;
 use term_tree::Mark;
 

@@ -8,16 +8,15 @@ ghost use Rattle.spec_saturation.specs.Common.{with_goal};
 ghost use Rattle.term_tree.specs.Bank.{Grows};
 ghost use Rattle.clause_form.specs.Seen.{clause_at};
 ghost use Rattle.clause_form.specs.Fit.{IsFit, AreFit};
-ghost use Rattle.clause_saturate.specs.Logs.{IsLogOf};
-ghost use Rattle.clause_saturate.specs.Live.{IsSameLive};
-ghost use Rattle.clause_saturate.specs.Walked.{HasStopped, HasPassed};
+ghost use Rattle.log_entries.specs.Logs.{IsLogOf};
+ghost use Rattle.log_entries.specs.Live.{IsSameLive};
+ghost use Rattle.log_walks.specs.Walked.{HasStopped, HasPassed};
 ghost use Rattle.clause_saturate.specs.Common.{Shared, task_of, AreProper, begun_log, begun_size, log_of, IsCommonOf, IsBegun, EndsWith, saturated};
 
 use crate::common::{Begun, Common, End};
-use crate::log::{Entry, Log};
-use crate::saturating::{walk_from_goal, walk_to_goal};
-use crate::walk::{Live, Stop, Walk};
 use clause_form::Clause;
+use log_entries::{Entry, Live, Log, Walk};
+use log_walks::{Stop, walk_from_goal, walk_to_goal};
 use std::alloc::{AllocError, Global};
 use term_tree::{Bank, Mark};
 

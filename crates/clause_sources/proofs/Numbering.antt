@@ -1,5 +1,6 @@
 -- The variables of owned trees, and trees with their variables numbered.
-use Rattle.std.proofs.Common.{◌≡◌, ◌∙◌, ℕ, List, [], ◌∷◌, ◌++◌, map, flat_map, refl, ap, sym}
+use Rattle.std.proofs.Common.{◌≡◌, ◌∙◌, ℕ, ◌+◌, ◌<◌, List, [], ◌∷◌, ◌++◌, length, map, flat_map, take, get_or, refl, ap, sym}
+use Rattle.std.proofs.lemmas.List.{map_more}
 use Rattle.std.proofs.lemmas.List.Folds.{flat_map-map}
 use Rattle.spec_trees.specs.Tree.{Node, more, trees, node, bind, binds}
 use Rattle.spec_terms.specs.Term.{Term, Subst}
@@ -35,3 +36,18 @@ bind_app s tree f args items made is seen are =
       both : (xs : List Tree) → map (bind s) (map term_of xs) ≡ map (λ t. bind s (term_of t)) xs
       both [] = refl
       both (x ∷ xs) = ap (λ l. bind s (term_of x) ∷ l) (both xs)
+
+-- one tree more with its variables numbered
+pub numbered_next : (s : Subst) (ts : List Tree) (i : ℕ) (tree : Tree) (before after : List Term) → before ≡ map (λ t. bind s (term_of t)) (take i ts) → i < length ts → tree ≡ get_or ts i tree → after ≡ before ++ bind s (term_of tree) ∷ [] → after ≡ map (λ t. bind s (term_of t)) (take (i + 1) ts)
+numbered_next s ts i tree before after was within is e =
+    let f : Tree → Term = λ t. bind s (term_of t) in
+    e ∙ (ap (λ (l : List Term). l ++ f tree ∷ []) was ∙ (ap (λ (t : Tree). map f (take i ts) ++ f t ∷ []) is ∙ sym (map_more f ts i tree within)))
+
+-- the one that was added to none is the last
+last_alone : (rest : List Tree) (tree : Tree) (t : Term) → map term_of (rest ++ tree ∷ []) ≡ t ∷ [] → term_of tree ≡ t
+last_alone [] tree t e = cc
+last_alone (x ∷ []) tree t e = cc
+last_alone (x ∷ (y ∷ ys)) tree t e = cc
+
+pub only_added : (items rest : List Tree) (tree : Tree) (before : List Term) (t : Term) → before ≡ [] → items ≡ rest ++ tree ∷ [] → map term_of items ≡ before ++ t ∷ [] → term_of tree ≡ t
+only_added items rest tree before t none was e = last_alone rest tree t (ap (map term_of) (sym was) ∙ (e ∙ ap (λ (l : List Term). l ++ t ∷ []) none))

@@ -72,8 +72,8 @@ fn numbered_diff_of(alloc: Global, order: &Order, diff: &PlainDiff) -> Result<Pl
         first: Some(diff.first),
         next,
     };
-    let left = numbered_trees(alloc, numbers, &diff.left)?;
-    let right = numbered_trees(alloc, numbers, &diff.right)?;
+    let left = numbered_trees(alloc, &numbers, &diff.left)?;
+    let right = numbered_trees(alloc, &numbers, &diff.right)?;
     Ok(PlainDiff {
         first: next,
         left,

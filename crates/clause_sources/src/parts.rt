@@ -1,9 +1,11 @@
 //! The sources of a raw clause.
 
 ghost use Rattle.std.specs.Prelude.{◌≡◌, [], ◌∷◌, ◌++◌, nat_eq, map, filter_map, IfOk, OnOk};
+ghost use Rattle.std.specs.Rc.{rc_value};
+ghost use Rattle.spec_clauses.specs.Fact.{clause_under};
 ghost use Rattle.spec_clauses.specs.Flat.{flat_parts};
 ghost use Rattle.spec_clauses.specs.Norm.{distinct};
-ghost use Rattle.spec_attack_runs.specs.Source.{source_under, source_variables};
+ghost use Rattle.spec_attack_runs.specs.Source.{action_under, source_variables};
 ghost use Rattle.term_tree.specs.Bank.{Grows};
 ghost use Rattle.clause_diffs.specs.Numbers.{placed};
 ghost use Rattle.clause_form.specs.Seen.{clause_at, IsClauseIn, AreClausesIn};
@@ -16,6 +18,7 @@ use crate::trees::{add_action_variables, add_clause_variables, numbered_action, 
 use clause_diffs::Order;
 use clause_form::{Clause, Clauses, Normal, PlainClause, copy_into, flatten, norm};
 use std::alloc::{AllocError, Global};
+use std::rc::Rc;
 use term_tree::Bank;
 
 /// Adds the number of a flat part, if the part says something. On `Err` the bank may have grown.
@@ -109,20 +112,45 @@ fn order_of(alloc: Global, raw: &PlainClause, action: &Action) -> Result<Order, 
     Order::new(alloc, numbers)
 }
 
-/// The source of a part, its variables numbered by this order.
-fn source_in(
+/// What the sources of a raw clause share: the raw clause and the action, their variables numbered.
+#[derive(Drop)]
+struct Shared {
+    raw: Rc<PlainClause>,
+    action: Rc<Action>,
+}
+
+/// What the sources of a raw clause share, its variables numbered by this order.
+fn shared_in(
     alloc: Global,
     order: &Order,
     raw: &PlainClause,
     action: &Action,
-    part: usize,
-) -> Result<Source, AllocError>
-    ensures { IfOk result (λ made. made ≡ source_under (placed order.now)
-        record { raw = numbered_in_bound raw.now; part = part; action = action_of action.now }) }
+) -> Result<Shared, AllocError>
+    ensures raw { IfOk result (λ made. rc_value made.raw ≡
+        clause_under (placed order.now) (numbered_in_bound raw.now)) }
+    ensures action { IfOk result (λ made. action_of (rc_value made.action) ≡
+        action_under (placed order.now) (action_of action.now)) }
 {
-    let raw = numbered_clause(alloc, order, raw)?;
-    let action = numbered_action(alloc, order, action)?;
-    Ok(Source { raw, part, action })
+    let numbered = numbered_clause(alloc, order, raw)?;
+    let raw = Rc::new(alloc, numbered)?;
+    let done = numbered_action(alloc, order, action)?;
+    let action = Rc::new(alloc, done)?;
+    Ok(Shared { raw, action })
+}
+
+impl Shared {
+    /// The source of a part.
+    fn source_of(&self, part: usize) -> Result<Source, AllocError>
+        ensures { IfOk result (λ made. made ≡ record {
+          raw = rc_value self.now.raw;
+          part = part;
+          action = action_of (rc_value self.now.action);
+        }) }
+    {
+        let raw = self.raw.clone()?;
+        let action = self.action.clone()?;
+        Ok(Source { raw, part, action })
+    }
 }
 
 /// Adds the sources of a raw clause, with the variables that its constraints bind numbered: one for each of its flat parts that
@@ -140,8 +168,9 @@ pub fn add_sources<B: Bank>(
 {
     let told = telling(alloc, bank, raw)?;
     let order = order_of(alloc, raw, action)?;
+    let shared = shared_in(alloc, &order, raw, action)?;
     'each: for part in &told {
-        let source = source_in(alloc, &order, raw, action, *part)?;
+        let source = shared.source_of(*part)?;
         sources.push(source)?;
     }
     Ok(())

@@ -2,11 +2,12 @@
 //! and Blanchet 2005).
 
 ghost use Rattle.std.specs.Prelude.{◌≡◌, [], ◌∷◌, ◌++◌, IfOk, OnOk};
-ghost use Rattle.clause_sources.specs.Seen.{choice_of};
+ghost use Rattle.clause_sources.specs.Seen.{choice_of, action_of};
 
 use clause_form::{PlainClause, Trees};
 use std::alloc::{AllocError, Global};
 use std::marker::Model;
+use std::rc::Rc;
 
 /// The label of a choice: the numbers of the rules by which the destructors of a `let` are applied, 0 alone where it has none; of
 /// a `get` it is empty.
@@ -94,12 +95,12 @@ pub enum Action {
 }
 
 /// A source: a raw clause, the number of the flat part whose norm a clause is, from 1, and what a run does where an instance of
-/// the raw clause is used.
+/// the raw clause is used. The sources of one raw clause share it and the action.
 #[derive(Drop)]
 pub struct Source {
-    pub raw: PlainClause,
+    pub(crate) raw: Rc<PlainClause>,
     pub part: usize,
-    pub action: Action,
+    pub(crate) action: Rc<Action>,
 }
 
 impl Model for Source {
@@ -110,9 +111,14 @@ impl Model for Source {
 
     ghost coded = { coded_source };
 
+    ghost use Rattle.std.specs.Rc.{rc_value};
     ghost use Rattle.clause_sources.specs.Seen.{action_of};
 
-    ghost view = { λ s. record { raw = s.raw; part = s.part; action = action_of s.action } };
+    ghost view = { λ s. record {
+      raw = rc_value s.raw;
+      part = s.part;
+      action = action_of (rc_value s.action);
+    } };
 }
 
 /// Sources in order.
@@ -158,6 +164,22 @@ impl Choices {
             items.push(choice.copy(alloc)?)?;
         }
         Ok(Choices { items })
+    }
+}
+
+impl Source {
+    /// The raw clause.
+    pub fn raw(&self) -> &PlainClause
+        ensures { result.now ≡ self.now.raw }
+    {
+        self.raw.as_ref()
+    }
+
+    /// What a run does where an instance of the raw clause is used.
+    pub fn action(&self) -> &Action
+        ensures { action_of result.now ≡ self.now.action }
+    {
+        self.action.as_ref()
     }
 }
 

@@ -1,10 +1,11 @@
 //! Raw clauses over owned trees with their variables numbered by first occurrence.
 
-ghost use Rattle.std.specs.Prelude.{◌≡◌, ◌++◌, map, flat_map, IfOk, OnOk};
-ghost use Rattle.spec_trees.specs.Tree.{bind};
+ghost use Rattle.std.specs.Prelude.{◌≡◌, [], ◌∷◌, ◌++◌, map, flat_map, IfOk, OnOk};
+ghost use Rattle.spec_trees.specs.Tree.{node, bind};
 ghost use Rattle.spec_clauses.specs.Fact.{fact_under, clause_under};
 ghost use Rattle.spec_clauses.specs.Variables.{leaves, fact_variables, clause_variables, constrained_variables};
 ghost use Rattle.spec_attack_runs.specs.Source.{action_under, action_terms};
+ghost use Rattle.term_tree.specs.Bank.{symbol_of};
 ghost use Rattle.clause_diffs.specs.Numbers.{placed};
 ghost use Rattle.clause_sources.specs.Places.{by_numbers};
 ghost use Rattle.clause_sources.specs.Bound.{numbered_in_bound};
@@ -18,6 +19,7 @@ use crate::source::{Action, Way};
 use clause_diffs::Order;
 use clause_form::{PlainClause, PlainFact, PlainFacts, Tree, Trees};
 use std::alloc::{AllocError, Global};
+use term_tree::Sym;
 
 /// Adds the variables of a term.
 pub(crate) fn add_variables(tree: &Tree, numbers: &mut Vec<u32>) -> Result<(), AllocError>
@@ -106,36 +108,81 @@ pub(crate) fn add_action_variables(
     }
 }
 
-/// The term with its variables numbered.
-fn numbered_tree(alloc: Global, numbers: Numbers<'_>, tree: &Tree) -> Result<Tree, AllocError>
-    ensures { IfOk result (λ made. term_of made ≡ bind (by_numbers numbers.entry) (term_of tree.now)) }
+/// Adds a variable with its number; want of memory too where that is past 32 bits.
+#[inline(never)]
+fn add_numbered_variable(
+    numbers: &Numbers<'_>,
+    number: u32,
+    made: &mut Vec<Tree>,
+) -> Result<(), AllocError>
+    ensures { OnOk result (map term_of made.new.items ≡
+        map term_of made.old.items ++ by_numbers numbers.now number ∷ []) }
+{
+    match number_of(*numbers, number) {
+        None => Err(AllocError),
+        Some(number) => {
+            made.push(Tree::Var(number))?;
+            Ok(())
+        }
+    }
+}
+
+/// Adds the term of a symbol over its arguments.
+#[inline(never)]
+fn add_applied(symbol: Sym, items: Vec<Tree>, made: &mut Vec<Tree>) -> Result<(), AllocError>
+    ensures { OnOk result (map term_of made.new.items ≡
+        map term_of made.old.items ++ node (symbol_of symbol) (map term_of items.items) ∷ []) }
+{
+    made.push(Tree::App(symbol, Trees { items }))?;
+    Ok(())
+}
+
+/// Adds the term with its variables numbered. Terms are thousands of levels deep, so it keeps little at each level.
+fn add_numbered(
+    alloc: Global,
+    numbers: &Numbers<'_>,
+    tree: &Tree,
+    made: &mut Vec<Tree>,
+) -> Result<(), AllocError>
+    ensures { OnOk result (map term_of made.new.items ≡
+        map term_of made.old.items ++ bind (by_numbers numbers.now) (term_of tree.now) ∷ []) }
 {
     match tree {
-        Tree::Var(number) => match number_of(numbers, *number) {
-            None => Err(AllocError),
-            Some(made) => Ok(Tree::Var(made)),
-        },
+        Tree::Var(number) => add_numbered_variable(numbers, *number, made),
         Tree::App(symbol, arguments) => {
             let mut items = Vec::with_capacity(alloc, arguments.items.len())?;
             'each: for argument in &arguments.items {
-                items.push(numbered_tree(alloc, numbers, argument)?)?;
+                add_numbered(alloc, numbers, argument, &mut items)?;
             }
-            Ok(Tree::App(*symbol, Trees { items }))
+            add_applied(*symbol, items, made)
         }
+    }
+}
+
+/// The term with its variables numbered.
+fn numbered_tree(alloc: Global, numbers: &Numbers<'_>, tree: &Tree) -> Result<Tree, AllocError>
+    ensures { IfOk result (λ made.
+        term_of made ≡ bind (by_numbers numbers.now) (term_of tree.now)) }
+{
+    let mut made = Vec::new(alloc);
+    add_numbered(alloc, numbers, tree, &mut made)?;
+    match made.pop() {
+        None => Err(AllocError),
+        Some(only) => Ok(only),
     }
 }
 
 /// The terms with their variables numbered.
 pub(crate) fn numbered_trees(
     alloc: Global,
-    numbers: Numbers<'_>,
+    numbers: &Numbers<'_>,
     trees: &Trees,
 ) -> Result<Trees, AllocError>
-    ensures { IfOk result (λ made. made ≡ map (bind (by_numbers numbers.entry)) trees.now) }
+    ensures { IfOk result (λ made. made ≡ map (bind (by_numbers numbers.now)) trees.now) }
 {
     let mut items = Vec::with_capacity(alloc, trees.items.len())?;
     'each: for tree in &trees.items {
-        items.push(numbered_tree(alloc, numbers, tree)?)?;
+        add_numbered(alloc, numbers, tree, &mut items)?;
     }
     Ok(Trees { items })
 }
@@ -143,11 +190,11 @@ pub(crate) fn numbered_trees(
 /// The fact with its variables numbered.
 fn numbered_fact(
     alloc: Global,
-    numbers: Numbers<'_>,
+    numbers: &Numbers<'_>,
     fact: &PlainFact,
 ) -> Result<PlainFact, AllocError>
     ensures { IfOk result (λ made. plain_fact_of made ≡
-        fact_under (by_numbers numbers.entry) (plain_fact_of fact.now)) }
+        fact_under (by_numbers numbers.now) (plain_fact_of fact.now)) }
 {
     match fact {
         PlainFact::Att(phase, term) => {
@@ -174,10 +221,10 @@ fn numbered_fact(
 /// The facts with their variables numbered.
 fn numbered_facts(
     alloc: Global,
-    numbers: Numbers<'_>,
+    numbers: &Numbers<'_>,
     facts: &PlainFacts,
 ) -> Result<PlainFacts, AllocError>
-    ensures { IfOk result (λ made. made ≡ map (fact_under (by_numbers numbers.entry)) facts.now) }
+    ensures { IfOk result (λ made. made ≡ map (fact_under (by_numbers numbers.now)) facts.now) }
 {
     let mut items = Vec::with_capacity(alloc, facts.items.len())?;
     'each: for fact in &facts.items {
@@ -197,9 +244,9 @@ pub(crate) fn numbered_clause(
         made ≡ clause_under (placed order.now) (numbered_in_bound clause.now)) }
 {
     let numbers = by_order(order);
-    let hyps = numbered_facts(alloc, numbers, &clause.hyps)?;
+    let hyps = numbered_facts(alloc, &numbers, &clause.hyps)?;
     let diffs = numbered_diffs(alloc, order, &clause.diffs)?;
-    let concl = numbered_fact(alloc, numbers, &clause.concl)?;
+    let concl = numbered_fact(alloc, &numbers, &clause.concl)?;
     Ok(PlainClause { hyps, diffs, concl })
 }
 
@@ -219,8 +266,8 @@ pub(crate) fn numbered_action(
         Action::Reaches(way) => {
             let numbers = by_order(order);
             let choices = way.choices.copy(alloc)?;
-            let messages = numbered_trees(alloc, numbers, &way.messages)?;
-            let sessions = numbered_trees(alloc, numbers, &way.sessions)?;
+            let messages = numbered_trees(alloc, &numbers, &way.messages)?;
+            let sessions = numbered_trees(alloc, &numbers, &way.sessions)?;
             Ok(Action::Reaches(Way {
                 point: way.point,
                 choices,

@@ -10,12 +10,12 @@ use Rattle.spec_terms.specs.Term.{Term}
 use Rattle.spec_translation.specs.Visit.{Visit}
 use Rattle.spec_translation.specs.Course.{Outcome, Done, TooLarge, Finished}
 use Rattle.spec_translation.specs.Visited.{EachThen, Visited}
-use Rattle.process_visits.specs.declared.choice.Choosing.{Choosing}
+use Rattle.visit_choices.specs.declared.choice.Choosing.{Choosing}
 use Rattle.process_visits.specs.declared.listing.Listing.{Listing}
 use Rattle.process_visits.specs.Forms.{Lists}
-use Rattle.process_visits.specs.Places.{protocol_at}
-use Rattle.process_visits.specs.Visits.{visit_at}
-use Rattle.process_visits.specs.Walks.{choices_of}
+use Rattle.unified_visits.specs.Places.{protocol_at}
+use Rattle.unified_visits.specs.Visits.{visit_at}
+use Rattle.visit_choices.specs.Walks.{choices_of}
 use Rattle.process_visits.proofs.Courses.{append_none}
 use Rattle.clause_translate.specs.Jobs.{Each, Ends, IsSmallLet, EndsEach}
 

@@ -3,9 +3,9 @@ use Rattle.std.proofs.Common.{◌≡◌, Bool, true, false, ◌||◌, Option, Li
 use Rattle.spec_terms.specs.Term.{Term}
 use Rattle.spec_translation.specs.Visit.{Visit}
 use Rattle.spec_translation.specs.Visited.{some_large}
-use Rattle.process_visits.specs.declared.ways.Way.{Way}
-use Rattle.process_visits.specs.declared.ways.Way.TheVariants as ways
-use Rattle.process_visits.specs.Ways.{is_large_way}
+use Rattle.visit_choices.specs.declared.ways.Way.{Way}
+use Rattle.visit_choices.specs.declared.ways.Way.TheVariants as ways
+use Rattle.visit_choices.specs.Ways.{is_large_way}
 use Rattle.process_visits.specs.Entries.{IsEntryWay}
 use Rattle.clause_translate.specs.Jobs.{AreSmallWays}
 

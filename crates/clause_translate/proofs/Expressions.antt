@@ -14,8 +14,8 @@ use Rattle.spec_choice_walks.specs.Instructions.{Apply, instructions, row_instru
 use Rattle.spec_choice_walks.proofs.Completing.{all_completed}
 use Rattle.spec_choice_walks.proofs.Counting.{counted, whole_becomes_one, applied_is}
 use Rattle.clause_terms.specs.Conditions.{HasShortTuples}
-use Rattle.process_visits.specs.Room.{rule_base}
-use Rattle.process_visits.specs.Short.{IsFitHead, IsFitInstruction, IsFitExpression, AreFitInstructions}
+use Rattle.unified_visits.specs.Room.{rule_base}
+use Rattle.unified_visits.specs.Short.{IsFitHead, IsFitInstruction, IsFitExpression, AreFitInstructions}
 
 row_length-items : (ts : Trees Term (Head ℕ)) → row_length ts ≡ length (items_of ts)
 row_length-items none = refl

@@ -10,15 +10,15 @@ use Rattle.spec_terms.specs.Term.{Term}
 use Rattle.spec_translation.specs.Visit.{Visit, after_copy}
 use Rattle.spec_translation.specs.Choice.{Choice, ruled_choice, GoesOn, EachGoesOn, entry_choice, EntryGoesOn}
 use Rattle.term_tree.specs.Bank.{tree_at}
-use Rattle.process_visits.specs.declared.place.Place.{Place}
-use Rattle.process_visits.specs.declared.visit.Visit as source
-use Rattle.process_visits.specs.Places.{IsAt}
-use Rattle.process_visits.specs.declared.ways.Passed.{Passed}
-use Rattle.process_visits.specs.declared.ways.Way.{Way}
-use Rattle.process_visits.specs.declared.ways.Way.TheVariants as ways
+use Rattle.unified_visits.specs.declared.place.Place.{Place}
+use Rattle.unified_visits.specs.declared.visit.Visit as source
+use Rattle.unified_visits.specs.Places.{IsAt}
+use Rattle.visit_choices.specs.declared.ways.Passed.{Passed}
+use Rattle.visit_choices.specs.declared.ways.Way.{Way}
+use Rattle.visit_choices.specs.declared.ways.Way.TheVariants as ways
 use Rattle.process_visits.specs.Entries.{IsEntryWay}
-use Rattle.process_visits.specs.Visits.{visit_at, NamesVisit, HasFewCopies}
-use Rattle.process_visits.specs.Ways.{AreWays, Passes}
+use Rattle.unified_visits.specs.Visits.{visit_at, NamesVisit, HasFewCopies}
+use Rattle.visit_choices.specs.Ways.{AreWays, Passes}
 use Rattle.clause_translate.specs.Jobs.{IsKnownWay}
 
 -- the same visit at a later point

@@ -4,9 +4,9 @@ use Rattle.std.proofs.lemmas.List.{length-append}
 use Rattle.spec_calculus.specs.Syntax.{Process, Protocol}
 use Rattle.spec_calculus.specs.Bounds.{most_points}
 use Rattle.spec_calculus.specs.Points.{nodes, point_after}
-use Rattle.process_visits.specs.declared.place.Place.{Place}
-use Rattle.process_visits.specs.Places.{protocol_at, IsAt, HasFewPoints}
-use Rattle.process_visits.specs.Short.{IsFitProcess}
+use Rattle.unified_visits.specs.declared.place.Place.{Place}
+use Rattle.unified_visits.specs.Places.{protocol_at, IsAt, HasFewPoints}
+use Rattle.unified_visits.specs.Short.{IsFitProcess}
 
 pub first_few : (p : Process) → length (nodes p) ≤ most_points → HasFewPoints 1 p
 first_few p few = omega (arith, few)

@@ -13,10 +13,10 @@ use Rattle.spec_translation.specs.Otherwise.{otherwise_visit}
 use Rattle.spec_attack_runs.specs.Source.{Choice, Taken, Else, Source}
 use Rattle.spec_attack_runs.specs.Gathered.{EachGathers, Gathers, visit_sources}
 use Rattle.process_visits.specs.declared.listing.Listing.{Listing}
-use Rattle.process_visits.specs.declared.place.Place.{Place}
-use Rattle.process_visits.specs.declared.ways.Way.{Way}
-use Rattle.process_visits.specs.declared.ways.Way.TheVariants as ways
-use Rattle.process_visits.specs.Places.{protocol_at, IsAt}
+use Rattle.unified_visits.specs.declared.place.Place.{Place}
+use Rattle.visit_choices.specs.declared.ways.Way.{Way}
+use Rattle.visit_choices.specs.declared.ways.Way.TheVariants as ways
+use Rattle.unified_visits.specs.Places.{protocol_at, IsAt}
 use Rattle.process_visits.specs.Telling.{Told, TellsVisit}
 use Rattle.clause_form.specs.Seen.{IdClause}
 use Rattle.spec_translation.specs.Course.{Done, TooLarge}

@@ -10,16 +10,16 @@ use Rattle.term_tree.specs.Bank.{Grows}
 use Rattle.spec_translation.specs.Visit.{Visit}
 use Rattle.spec_choice_walks.specs.Instructions.{Instruction, instructions, completions, choices_by}
 use Rattle.spec_choice_walks.proofs.Completing.{all_completed}
-use Rattle.process_visits.specs.declared.choice.Choosing.{Choosing}
-use Rattle.process_visits.specs.declared.ways.Looked.{Looked}
-use Rattle.process_visits.specs.declared.ways.Passed.{Passed}
-use Rattle.process_visits.specs.Places.{protocol_at}
-use Rattle.process_visits.specs.Short.{IsFitExpression, AreFitInstructions}
-use Rattle.process_visits.specs.Visits.{visit_at, IsVisitIn, HasFewCopies}
-use Rattle.process_visits.specs.Walks.{instructions_of, choices_of, IsChoosingIn, HasChoices}
-use Rattle.process_visits.specs.Ways.{Passes}
-use Rattle.process_visits.proofs.Named.{visit_later}
-use Rattle.process_visits.proofs.Passing.{choices_counted}
+use Rattle.visit_choices.specs.declared.choice.Choosing.{Choosing}
+use Rattle.visit_choices.specs.declared.ways.Looked.{Looked}
+use Rattle.visit_choices.specs.declared.ways.Passed.{Passed}
+use Rattle.unified_visits.specs.Places.{protocol_at}
+use Rattle.unified_visits.specs.Short.{IsFitExpression, AreFitInstructions}
+use Rattle.unified_visits.specs.Visits.{visit_at, IsVisitIn, HasFewCopies}
+use Rattle.visit_choices.specs.Walks.{instructions_of, choices_of, IsChoosingIn, HasChoices}
+use Rattle.visit_choices.specs.Ways.{Passes}
+use Rattle.unified_visits.proofs.Named.{visit_later}
+use Rattle.visit_choices.proofs.Passing.{choices_counted}
 use Rattle.clause_translate.specs.Jobs.{IsSmallLet}
 use Rattle.clause_translate.proofs.Expressions.{instructions_fit, choices_few}
 

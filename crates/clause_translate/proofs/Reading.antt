@@ -17,8 +17,8 @@ use Rattle.spec_well_formed.specs.Limits.{IsSmallRule, IsSmallDestructor, IsWith
 use Rattle.spec_well_formed.specs.Rules.{IsProperRule, HasProperRules}
 use Rattle.spec_well_formed.specs.WellFormed.{IsRuleOver, IsWellScoped}
 use Rattle.clause_terms.proofs.Laws.{short_term, short_terms, short_pattern, short_row, short_rule, rule_room}
-use Rattle.process_visits.specs.Room.{rule_base}
-use Rattle.process_visits.specs.Short.{IsFitHead, IsFitExpression, IsFitProcess, IsFitRule, HasFitRules}
+use Rattle.unified_visits.specs.Room.{rule_base}
+use Rattle.unified_visits.specs.Short.{IsFitHead, IsFitExpression, IsFitProcess, IsFitRule, HasFitRules}
 
 -- what holds of each root follows from what else holds of it
 mutual

@@ -12,12 +12,12 @@ use Rattle.spec_attack_runs.specs.Source.{Choice, Taken, Source}
 use Rattle.spec_attack_runs.specs.Gathered.{labelled, EachGathers, Gathers}
 use Rattle.spec_choice_walks.proofs.Ways.{each-append}
 use Rattle.process_visits.specs.declared.listing.Listing.{Listing}
-use Rattle.process_visits.specs.declared.ways.Way.{Way}
-use Rattle.process_visits.specs.declared.ways.Way.TheVariants as ways
+use Rattle.visit_choices.specs.declared.ways.Way.{Way}
+use Rattle.visit_choices.specs.declared.ways.Way.TheVariants as ways
 use Rattle.process_visits.specs.Labels.{IsLabelAt}
 use Rattle.process_visits.specs.Telling.{Told}
-use Rattle.process_visits.specs.Visits.{visit_at}
-use Rattle.process_visits.proofs.Passing.{take_on}
+use Rattle.unified_visits.specs.Visits.{visit_at}
+use Rattle.visit_choices.proofs.Passing.{take_on}
 use Rattle.clause_translate.specs.Jobs.{AreSmallWays}
 use Rattle.clause_translate.specs.Gathering.{TellsWay, AreGathered, TellsEach}
 use Rattle.clause_translate.proofs.Gathering.{nothing_told, told_from, told_twice}

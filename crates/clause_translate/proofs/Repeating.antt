@@ -15,15 +15,15 @@ use Rattle.spec_translation.specs.Visited.{some_large, EachThen, Visited}
 use Rattle.spec_translation.proofs.Lets.{large_alike}
 use Rattle.spec_choice_walks.proofs.Ways.{each-append, each-drop}
 use Rattle.process_visits.specs.declared.listing.Listing.{Listing}
-use Rattle.process_visits.specs.declared.ways.Passed.{Passed}
-use Rattle.process_visits.specs.declared.ways.Way.{Way}
-use Rattle.process_visits.specs.declared.ways.Way.TheVariants as ways
-use Rattle.process_visits.specs.Visits.{NamesVisit}
-use Rattle.process_visits.specs.Ways.{AreWays, Passes}
+use Rattle.visit_choices.specs.declared.ways.Passed.{Passed}
+use Rattle.visit_choices.specs.declared.ways.Way.{Way}
+use Rattle.visit_choices.specs.declared.ways.Way.TheVariants as ways
+use Rattle.unified_visits.specs.Visits.{NamesVisit}
+use Rattle.visit_choices.specs.Ways.{AreWays, Passes}
 use Rattle.process_visits.proofs.Courses.{each_append, each_join, each_more, each_ends, preceded_none}
 use Rattle.process_visits.proofs.Listings.{lists_none}
-use Rattle.process_visits.proofs.Passing.{take_on, way_large}
-use Rattle.process_visits.proofs.Tests.{any-append}
+use Rattle.visit_choices.proofs.Passing.{take_on, way_large}
+use Rattle.visit_choices.proofs.Tests.{any-append}
 use Rattle.clause_translate.specs.Jobs.{Once, Each, IsDone, Ends, AreSmallWays, EndsEach}
 use Rattle.clause_translate.proofs.Visiting.{ends_as, ends_behind}
 

@@ -20,13 +20,13 @@ use Rattle.spec_translation.specs.Choice.{EachGoesOn, AllGoOn, EntryGoesOn}
 use Rattle.spec_translation.specs.Otherwise.{otherwise_visit}
 use Rattle.spec_translation.specs.Visited.{some_large, EachThen, Received, Chosen, Fetched, Visited}
 use Rattle.process_visits.specs.declared.listing.Listing.{Listing}
-use Rattle.process_visits.specs.declared.place.Place.{Place}
-use Rattle.process_visits.specs.declared.visit.Visit as source
-use Rattle.process_visits.specs.Places.{protocol_at, IsAt}
-use Rattle.process_visits.specs.Visits.{visit_at, NamesVisit}
+use Rattle.unified_visits.specs.declared.place.Place.{Place}
+use Rattle.unified_visits.specs.declared.visit.Visit as source
+use Rattle.unified_visits.specs.Places.{protocol_at, IsAt}
+use Rattle.unified_visits.specs.Visits.{visit_at, NamesVisit}
 use Rattle.process_visits.specs.Forms.{Lists, Adds, are_large_in, output_raw, is_large_output, insert_raw, is_large_insert, event_raw, is_large_event, AddsEvent, IsLargeInput, evaluated, received, Receives}
 use Rattle.clause_translate.specs.Jobs.{Job, Once, Uncounted, Each, Runs, IsDone, Ends, EndsEach}
-use Rattle.process_visits.proofs.Named.{if_ok}
+use Rattle.unified_visits.proofs.Named.{if_ok}
 use Rattle.process_visits.proofs.Listings.{lists_none, lists_behind, lists_no_more}
 use Rattle.process_visits.proofs.Courses.{unless_large, unless_small, each_join, each_large}
 use Rattle.clause_form.specs.Seen.{IdClause}

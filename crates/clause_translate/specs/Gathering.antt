@@ -8,10 +8,10 @@ use Rattle.spec_translation.specs.Choice.{EachGoesOn}
 use Rattle.spec_attack_runs.specs.Source.{Choice, Taken, Source}
 use Rattle.spec_attack_runs.specs.Gathered.{labelled, EachGathers, Gathers, attacker_sources}
 use Rattle.process_visits.specs.declared.listing.Listing.{Listing}
-use Rattle.process_visits.specs.declared.ways.Way.{Way}
-use Rattle.process_visits.specs.declared.ways.Way.TheVariants as ways
+use Rattle.visit_choices.specs.declared.ways.Way.{Way}
+use Rattle.visit_choices.specs.declared.ways.Way.TheVariants as ways
 use Rattle.process_visits.specs.Telling.{Told}
-use Rattle.process_visits.specs.Visits.{visit_at}
+use Rattle.unified_visits.specs.Visits.{visit_at}
 
 -- the sources of a process at a point are told, below the choices of the listing
 pub record IsGathered (P : Protocol) (process : Process) (point : ℕ) (v : Visit) (before after : Listing) : Type 0 where

@@ -9,14 +9,14 @@ use Rattle.spec_translation.specs.Visit.{Visit}
 use Rattle.spec_translation.specs.Course.{Outcome, Done, TooLarge, Finished}
 use Rattle.spec_translation.specs.Choice.{EachGoesOn}
 use Rattle.spec_translation.specs.Visited.{some_large, EachThen, Visited}
-use Rattle.process_visits.specs.declared.choice.Choosing.{Choosing}
+use Rattle.visit_choices.specs.declared.choice.Choosing.{Choosing}
 use Rattle.process_visits.specs.declared.listing.Listing.{Listing}
-use Rattle.process_visits.specs.declared.ways.Way.{Way}
-use Rattle.process_visits.specs.declared.ways.Way.TheVariants as ways
+use Rattle.visit_choices.specs.declared.ways.Way.{Way}
+use Rattle.visit_choices.specs.declared.ways.Way.TheVariants as ways
 use Rattle.process_visits.specs.Forms.{Lists}
-use Rattle.process_visits.specs.Places.{protocol_at}
-use Rattle.process_visits.specs.Visits.{visit_at, IsVisitIn, HasFewCopies}
-use Rattle.process_visits.specs.Walks.{choices_of, HasChoices}
+use Rattle.unified_visits.specs.Places.{protocol_at}
+use Rattle.unified_visits.specs.Visits.{visit_at, IsVisitIn, HasFewCopies}
+use Rattle.visit_choices.specs.Walks.{choices_of, HasChoices}
 
 -- a process at a point, the same whose visit is counted already, or a process once for each of these visits that is there
 pub data Job : Type 0 where

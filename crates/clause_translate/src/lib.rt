@@ -1,6 +1,7 @@
 //! The translation of a protocol and a query into clauses (Blanchet 2016, section 3.3).
 #![tactic(auto)]
 
+mod branches;
 mod origins;
 mod runs;
 mod visits;

@@ -14,8 +14,8 @@ ghost use Rattle.spec_translation.specs.Translation.{goal_clauses};
 ghost use Rattle.clause_form.specs.Fit.{AreLowWithinLimit};
 ghost use Rattle.clause_form.specs.Seen.{clause_at, AreClausesIn, NameClauses};
 ghost use Rattle.query_derive.specs.GoalRows.{OfQuery};
-ghost use Rattle.process_visits.specs.Places.{HasFewPoints};
-ghost use Rattle.process_visits.specs.Short.{IsFitProcess, HasFitRules};
+ghost use Rattle.unified_visits.specs.Places.{HasFewPoints};
+ghost use Rattle.unified_visits.specs.Short.{IsFitProcess, HasFitRules};
 ghost use Rattle.clause_translate.specs.Gathering.{Tells};
 ghost use Rattle.clause_translate.specs.Jobs.{Once, Ends};
 ghost use Rattle.clause_translate.specs.Whole.{IsLargeAt, IsVisited, Translates, TranslatesTo, TranslatesAll, IsCommonTo, IsKept};
@@ -28,11 +28,11 @@ use clause_form::Clauses;
 use clause_sources::Choices;
 use pi_tree::{MOST_VISITS, Protocol};
 use process_visits::listing::Listing;
-use process_visits::place::Place;
-use process_visits::visit::Visit;
 use query_derive::goal_clause;
 use std::alloc::{AllocError, Global};
 use term_tree::Bank;
+use unified_visits::place::Place;
+use unified_visits::visit::Visit;
 
 /// What a protocol and a query are translated into.
 #[derive(Drop)]

@@ -14,6 +14,3 @@ pub use crate::meeting::{may_meet, may_resolve};
 pub use spec_fingerprints::{
     facts_that_meet_have_fingerprints_that_may, fingerprints_tell_that_there_is_no_unifier,
 };
-
-#[cfg(test)]
-mod tests;

@@ -1,8 +1,7 @@
 -- Terms of numbers, and nodes that are added.
-use Rattle.std.proofs.Common.{◌≡◌, ◌≢◌, ℕ, zero, suc, ◌+◌, ◌-◌, ◌<◌, ◌≤◌, Bool, true, false, if◌then◌else◌, ◌||◌, List, [], ◌∷◌, ◌++◌, length, map, take, get_or, refl, sym, ap, ◌∙◌, subst, arith, length-append}
+use Rattle.std.proofs.Common.{◌≡◌, ◌≢◌, ℕ, zero, suc, ◌+◌, ◌-◌, ◌<◌, ◌≤◌, Bool, true, false, if◌then◌else◌, ◌||◌, List, [], ◌∷◌, ◌++◌, length, map, refl, sym, ap, ◌∙◌, subst, arith, length-append}
 use Rattle.std.specs.Prelude.{Result, OnOk}
 use Rattle.std.proofs.lemmas.Bool.Decides.{nat_tests}
-use Rattle.std.proofs.lemmas.List.{map_more, take_all}
 use Rattle.std.specs.List.{AllByRecursion, list_any}
 use Rattle.spec_trees.specs.Tree.{node, size}
 use Rattle.spec_calculus.specs.Bounds.{most_symbols}
@@ -20,7 +19,7 @@ use Rattle.spec_node_counts.specs.Nodes.{Table, is_bound_node, with_node, added}
 use Rattle.term_tree.specs.Bank.{tree_at, AreKnown, Names, capped}
 use Rattle.term_tree.specs.declared.bank.Id.{Id}
 use Rattle.term_store.specs.SharedBank.{Finds, IsKnown, AddsNew}
-use Rattle.node_reader.specs.Seen.{id_of}
+use Rattle.node_lines.specs.Seen.{id_of}
 
 -- Numbers as ids.
 
@@ -38,21 +37,6 @@ trees_of_numbers all (n ∷ ns) (is, are) =
     let first = tree_of_number all n (omega (arith, is.0)) in
     let others = trees_of_numbers all ns are in
     λ i. first i ∷ others i
-
--- so many numbers are ids already
-pub record AreIds (ns : List ℕ) (i : ℕ) (ids : List Id) : Type 0 where
-  pub are : ids ≡ map id_of (take i ns)
-
-pub ids_start : (ns : List ℕ) (ids : List Id) → ids ≡ [] → AreIds ns 0 ids
-ids_start ns ids none = record { are = none }
-
-pub ids_on : (ns : List ℕ) (i : ℕ) (ids more : List Id) (id : Id) → AreIds ns i ids → i < length ns → more ≡ ids ++ id ∷ [] → id.index ≡ get_or ns i 0 - 1 → AreIds ns (i + 1) more
-ids_on ns i ids more id are below pushed is =
-    let here : id ≡ id_of (get_or ns i 0) = ap (λ (n : ℕ). (let x : Id = record { index = n } in x)) is in
-    record { are = pushed ∙ (ap (λ xs. xs ++ id ∷ []) are.are ∙ (ap (λ x. map id_of (take i ns) ++ x ∷ []) here ∙ sym (map_more id_of ns i 0 below))) }
-
-pub ids_end : (ns : List ℕ) (i : ℕ) (ids : List Id) → AreIds ns i ids → length ns ≤ i → ids ≡ map id_of ns
-ids_end ns i ids are past = are.are ∙ ap (map id_of) (take_all i ns past)
 
 -- Nodes that stand earlier.
 
@@ -81,8 +65,6 @@ pub stands_known : (t : Term) (all : List Term) → list_any (same_term t) all �
 stands_known t all e = let there = found_among t all e in (record { index = there.0 }, record { known = there.1; is = there.2 })
 
 -- What was added.
-
-pub ruleset ids = (ids_start, ids_on, ids_end)
 
 -- a tree that is added makes the bank longer
 same_length : (t : Term) (old new : List Term) → AddsNew old new t → length new ≡ length old → list_any (same_term t) old ≡ true

@@ -6,11 +6,6 @@
 //! in a clause takes one look.
 #![tactic(auto)]
 
-mod bounds;
-mod heads;
-mod nodes;
-mod numbers;
-mod row;
 mod table;
 
 pub use crate::table::{Table, read_nodes};

@@ -9,15 +9,14 @@ ghost use Rattle.fact_reader.specs.Reads.{Reads};
 ghost use Rattle.spec_node_starts.specs.Starts as walks;
 ghost use Rattle.spec_node_counts.specs.Nodes as reading;
 ghost use Rattle.spec_node_tables.specs.Text.{node_numbers};
-ghost use Rattle.node_reader.specs.Seen.{node_of, HasNodesBefore};
+ghost use Rattle.node_lines.specs.Seen.{node_of, HasNodesBefore};
 ghost use Rattle.node_reader.specs.Tables.{table_of};
 
-use crate::bounds::{bound_at, is_bound_node};
-use crate::nodes::{Body, TableNode, node, read_body};
-use crate::numbers::ids_of;
-use crate::row::{start_at, start_of};
 use fact_reader::{CertError, Cursor};
 use limits::MOST_SYMBOLS;
+use node_lines::{
+    Body, TableNode, bound_at, ids_of, is_bound_node, node, read_body, start_at, start_of,
+};
 use std::alloc::{AllocError, Global};
 use term_reader::Names;
 use term_store::SharedBank;
@@ -91,7 +90,7 @@ impl Table {
     ghost use Rattle.fact_reader.specs.Reads.{Finds};
     ghost use Rattle.spec_node_starts.specs.Starts as walks;
     ghost use Rattle.spec_node_counts.specs.Nodes as reading;
-    ghost use Rattle.node_reader.specs.Seen.{body_of, node_of, HasNumbersOf, HasNodesBefore};
+    ghost use Rattle.node_lines.specs.Seen.{body_of, node_of, HasNumbersOf, HasNodesBefore};
     ghost use Rattle.node_reader.specs.Tables.{table_of};
 
     /// How many nodes there are.
@@ -166,7 +165,7 @@ fn node_line(names: &Names<'_>, cursor: &mut Cursor<'_>, table: &mut Table) -> R
 }
 
 /// All nodes that stand there.
-#[tactic(auto, using(crate::proofs::Loops::going))]
+#[tactic(auto, using(node_lines::proofs::Loops::going))]
 pub fn read_nodes(names: &Names<'_>, cursor: &mut Cursor<'_>) -> Result<Table, CertError>
     ensures read { Reads table_of (reading.table_read (protocol_in names.now))
         cursor.old cursor.new result }

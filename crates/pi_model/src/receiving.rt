@@ -3,6 +3,7 @@
 
 ghost use Rattle.std.specs.Prelude.{◌≡◌, ◌+◌, ◌^◌, ◌<◌, ◌||◌, IfOk, IfErr};
 ghost use Rattle.std.specs.List.{list_any};
+ghost use Rattle.std.specs.Rc.{rc_value};
 ghost use Rattle.spec_calculus.specs.Limits.{is_large, terms_at};
 ghost use Rattle.spec_calculus.specs.Matching.{matched};
 ghost use Rattle.spec_calculus.specs.Runs as calculus;
@@ -23,11 +24,31 @@ use pi_configurations::knowing::knows;
 use pi_configurations::threads::Thread;
 use pi_tree::{Pat, Process, Value};
 use std::alloc::{AllocError, Global};
-use term_values::{Bound, Environment, evaluate, is_value_of, matched, some_large_at};
+use std::rc::Rc;
+use term_values::{
+    Bound, Environment, evaluate, evaluate_shared, is_value_of, matched, matched_shared,
+    some_large_at,
+};
+
+/// The thread at an input once it has received a value of which its pattern binds so much: it goes on, and else it has ended.
+fn going_on(
+    alloc: Global,
+    point: u32,
+    environment: &Environment,
+    matching: Option<Environment>,
+) -> Result<Thread, AllocError>
+    requires { point + 1 < 2 ^ 32 }
+    ensures { IfOk result (λ t. thread_of t ≡ received point environment.now matching) }
+{
+    match matching {
+        None => Ok(Thread::Ended),
+        Some(bindings) => Ok(Thread::At(point + 1, environment.extended(alloc, bindings)?)),
+    }
+}
 
 /// The thread at an input with that pattern once it has received the value: it goes on where the value
 /// matches, and else it has ended.
-pub fn received(
+fn received(
     alloc: Global,
     point: u32,
     environment: &Environment,
@@ -39,10 +60,25 @@ pub fn received(
         received point environment.now (matched environment.now (pattern_of pattern.now)
         (value_of value.now))) }
 {
-    match matched(alloc, environment, pattern, value)? {
-        None => Ok(Thread::Ended),
-        Some(bindings) => Ok(Thread::At(point + 1, environment.extended(alloc, bindings)?)),
-    }
+    let matching = matched(alloc, environment, pattern, value)?;
+    going_on(alloc, point, environment, matching)
+}
+
+/// The same; a pattern that is a variable shares the value.
+fn received_shared(
+    alloc: Global,
+    point: u32,
+    environment: &Environment,
+    pattern: &Pat,
+    value: &Rc<Value>,
+) -> Result<Thread, AllocError>
+    requires { point + 1 < 2 ^ 32 }
+    ensures { IfOk result (λ t. thread_of t ≡
+        received point environment.now (matched environment.now (pattern_of pattern.now)
+        (value_of (rc_value value.now)))) }
+{
+    let matching = matched_shared(alloc, environment, pattern, value)?;
+    going_on(alloc, point, environment, matching)
 }
 
 /// The thread at an input on a channel that is known receives a known value.
@@ -105,8 +141,14 @@ fn meet(
                 if some_large_at_either(from, to) {
                     return Err(ApplyError::Refused(StepError::Large));
                 }
-                let message = evaluate(message, run.alloc, from.environment)?;
-                let thread = received(run.alloc, to.point, to.environment, pattern, &message)?;
+                let message = evaluate_shared(message, run.alloc, from.environment)?;
+                let thread = received_shared(
+                    run.alloc,
+                    to.point,
+                    to.environment,
+                    pattern,
+                    &message,
+                )?;
                 Ok(Change::Pass(sender, from.point + 1, receiver, thread))
             }
             _ => Err(ApplyError::Refused(StepError::WrongForm)),

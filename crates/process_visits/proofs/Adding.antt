@@ -20,7 +20,7 @@ use Rattle.clause_form.specs.Seen.{clause_at, NamesFact, NameFacts, AreClausesIn
 use Rattle.clause_form.proofs.Copying.{NameClauses-grow}
 use Rattle.process_visits.specs.declared.listing.Listing.{Listing}
 use Rattle.process_visits.specs.Forms.{Adds, ShowsClause}
-use Rattle.process_visits.specs.Visits.{ShowDiffs}
+use Rattle.unified_visits.specs.Visits.{ShowDiffs}
 
 -- numbering once is numbering twice
 pub numbered_twice : (ds es : List Diff) → map numbered_diff ds ≡ es → map numbered_diff ds ≡ map numbered_diff es

@@ -19,7 +19,7 @@ use Rattle.spec_translation.specs.Visit.{Visit, visit_terms, visit_under, is_lar
 use Rattle.spec_translation.specs.Choice.{GoesOn, left_of, right_of, entry_choice, has_large_side}
 use Rattle.spec_translation.proofs.Existence.{choice_goes}
 use Rattle.spec_translation.proofs.PlainLet.{visit_under-Leaf}
-use Rattle.term_tree.specs.Bank.{tree_at, AreKnown, Names, Grows}
+use Rattle.term_tree.specs.Bank.{tree_at, Names, Grows}
 use Rattle.term_tree.specs.declared.bank.Id.{Id}
 use Rattle.unify_match.specs.declared.bound.Bound.{Bound}
 use Rattle.unify_match.specs.Outcome.{Unified, NoUnifier}
@@ -30,21 +30,22 @@ use Rattle.clause_terms.specs.Conditions.{HasRoomAt}
 use Rattle.clause_terms.specs.Fresh.{fresh_of}
 use Rattle.clause_terms.specs.Scopes.{Held, scope_at, NamesScope}
 use Rattle.clause_terms.proofs.Rows.{room_pattern_arguments}
-use Rattle.process_visits.specs.declared.spans.Span.{Span}
-use Rattle.process_visits.specs.declared.visit.Visit as source
-use Rattle.process_visits.specs.declared.ways.Way.{Way}
-use Rattle.process_visits.specs.declared.ways.Way.TheVariants as ways
+use Rattle.unified_visits.specs.declared.spans.Span.{Span}
+use Rattle.unified_visits.specs.declared.visit.Visit as source
+use Rattle.visit_choices.specs.declared.ways.Way.{Way}
+use Rattle.visit_choices.specs.declared.ways.Way.TheVariants as ways
 use Rattle.process_visits.specs.Forms.{are_large_in}
-use Rattle.process_visits.specs.Spans.{IsSpan}
-use Rattle.process_visits.specs.Visits.{visit_at, IsVisitIn, NamesVisit}
+use Rattle.unified_visits.specs.Spans.{IsSpan}
+use Rattle.unified_visits.specs.Visits.{visit_at, IsVisitIn, NamesVisit}
 use Rattle.process_visits.specs.Entries.{WithEntry, met_choice, IsEntryWay, EntryGoes}
-use Rattle.process_visits.specs.Solving.{AreSolved, HasBelow}
-use Rattle.process_visits.proofs.Named.{all_below_more, below_parts, below_visit_more, scope_later, hypotheses_later, messages_later, sessions_later, diffs_later, visit_later, visit_named}
-use Rattle.process_visits.proofs.Below.{pattern_below, bound_below, term_in_below}
+use Rattle.unified_visits.specs.Solving.{AreSolved, HasBelow}
+use Rattle.unified_visits.proofs.Named.{all_below_more, below_parts, below_visit_more, scope_later, hypotheses_later, messages_later, sessions_later, diffs_later, visit_later, visit_named}
+use Rattle.unified_visits.proofs.Below.{pattern_below, bound_below, term_in_below}
 use Rattle.process_visits.proofs.Happening.{facts_below}
-use Rattle.process_visits.proofs.Receiving.{scope_append}
-use Rattle.process_visits.proofs.Solving.{none_solved, solutions_below}
-use Rattle.process_visits.proofs.Choosing.{goes_nowhere, goes_there}
+use Rattle.unified_visits.proofs.Bound.{scope_append}
+use Rattle.visit_choices.proofs.Solving.{none_solved, solutions_below}
+use Rattle.visit_choices.proofs.Choosing.{goes_nowhere, goes_there}
+use Rattle.visit_choices.proofs.Joined.{terms_append}
 
 -- New variables of patterns in a row.
 
@@ -71,16 +72,6 @@ row_room from ps span is =
     (all_weaker (λ i. span.at.base + (i - span.at.first) < span.next) (λ i. span.at.base + (i - span.at.first) < 2 ^ 32) (λ i h. omega (arith, h, few)) (bound_numbers (row_pattern ps)) own.room)
 
 -- The visit with the entry.
-
-known_append : (all : List Term) (xs ys : List Id) → AreKnown all xs → AreKnown all ys → AreKnown all (xs ++ ys)
-known_append all [] ys known more = more
-known_append all (x ∷ xs) ys known more = (known.0, known_append all xs ys known.1 more)
-
-pub terms_append : (all : List Term) (xs ys : List Id) (ts us : List Term) → NameTerms all xs ts → NameTerms all ys us → NameTerms all (xs ++ ys) (ts ++ us)
-terms_append all xs ys ts us names more = record {
-  known = known_append all xs ys names.known more.known;
-  are = map-append (tree_at all) xs ys ∙ (λ i. names.are i ++ more.are i);
-}
 
 pub entered : (P : Protocol) (old mid new : List Term) (v scoped made : source.Visit) (span : Span) (table : ℕ) (ps : List Pattern) (ids : List Id) (bound : List Held) → Grows old mid → Grows mid new → Grows old new → IsVisitIn old v
     → IsSpan v.next (bound_numbers (row_pattern ps)) span → NameTerms mid ids (map (pattern_term P (scope_at old v.scope) (fresh_of span.at)) ps) → NamesScope new bound (pattern_scope (fresh_of span.at) (row_pattern ps))

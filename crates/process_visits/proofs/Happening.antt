@@ -1,6 +1,6 @@
 -- Events: the raw clause, and the visit below.
 use Rattle.std.proofs.Common.{◌≡◌, ℕ, Bool, true, false, ◌||◌, Option, Some, None, List, [], ◌∷◌, ◌++◌, map, refl, ap, sym, subst}
-use Rattle.std.specs.Prelude.{flat_map, MatchBool}
+use Rattle.std.specs.Prelude.{flat_map}
 use Rattle.spec_terms.specs.Term.{Term}
 use Rattle.spec_clauses.specs.Fact.{Fact, Ev, Mev, terms_of}
 use Rattle.spec_clauses.specs.Variables.{IsBelow, AreBelow}
@@ -14,11 +14,11 @@ use Rattle.term_tree.specs.declared.bank.Id.{Id}
 use Rattle.term_tree.proofs.BankLaws.{Grows_refl}
 use Rattle.clause_form.specs.Seen.{NamesFact, IdClause}
 use Rattle.clause_form.proofs.Copying.{NameFacts-push}
-use Rattle.process_visits.specs.declared.visit.Visit as source
+use Rattle.unified_visits.specs.declared.visit.Visit as source
 use Rattle.process_visits.specs.declared.listing.Listing.{Listing}
 use Rattle.process_visits.specs.Forms.{Adds, raw_event, below_event, event_raw, is_large_event, are_large_in, IsSmallVisit, ShowsClause, EventAdds}
-use Rattle.process_visits.specs.Visits.{visit_at, IsVisitIn, NamesVisit}
-use Rattle.process_visits.proofs.Named.{below_parts, scope_later, hypotheses_later, messages_later, sessions_later, diffs_later, visit_named}
+use Rattle.unified_visits.specs.Visits.{visit_at, IsVisitIn, NamesVisit}
+use Rattle.unified_visits.proofs.Named.{below_parts, scope_later, hypotheses_later, messages_later, sessions_later, diffs_later, visit_named}
 use Rattle.process_visits.proofs.Adding.{raw_named}
 
 event_fact : (all : List Term) (event : ℕ) (ids : List Id) → AreKnown all ids → NamesFact all (Ev event ids) (Ev event (map (tree_at all) ids))
@@ -85,12 +85,3 @@ module _ (P : Protocol) (v : Visit) (e : EventTerm) where
     adds = adds;
     names = visit.1;
   }
-
--- a test that came out true, or false
-pub if_true : (b : Bool) (A B : Type 0) → b ≡ true → MatchBool b A B → A
-if_true true A B e h = h
-if_true false A B e h = absurd (let same = e in cc)
-
-pub if_false : (b : Bool) (A B : Type 0) → b ≡ false → MatchBool b A B → B
-if_false false A B e h = h
-if_false true A B e h = absurd (let same = e in cc)

@@ -16,7 +16,7 @@ use Rattle.spec_choice_walks.proofs.Labelling.{labels_are}
 use Rattle.term_values.specs.Instructions.{instruction_of}
 use Rattle.term_values.specs.declared.instructions.Instruction as code
 use Rattle.process_visits.specs.Labels.{StandsAt, IsLabelAt, called_by}
-use Rattle.process_visits.proofs.Walking.{IsSplit, placed, split_number, first_left}
+use Rattle.visit_choices.proofs.Walking.{IsSplit, placed, split_number, first_left}
 
 -- the labels of each rule of these, before those that are left
 abbrev labelled : List (List ℕ) → List (ℕ × Rule) → List (List ℕ)

@@ -14,11 +14,11 @@ use Rattle.clause_form.proofs.Copying.{NamesClause-grows}
 use Rattle.clause_sources.specs.Bound.{numbered_in_bound}
 use Rattle.spec_attack_runs.specs.Source.{Reaches, Source, sources_of}
 use Rattle.process_visits.specs.declared.listing.Listing.{Listing}
-use Rattle.process_visits.specs.declared.visit.Visit as source
-use Rattle.process_visits.specs.Visits.{visit_at, IsVisitIn}
+use Rattle.unified_visits.specs.declared.visit.Visit as source
+use Rattle.unified_visits.specs.Visits.{visit_at, IsVisitIn}
 use Rattle.process_visits.specs.Telling.{way_at, Told, TellsRaw, TellsVisit}
 use Rattle.process_visits.proofs.Adding.{numbered_twice}
-use Rattle.process_visits.proofs.Named.{if_ok}
+use Rattle.unified_visits.proofs.Named.{if_ok}
 
 -- a raw clause in a bank that grew
 pub raw_later : (old now : List Term) (raw : IdClause) → Grows old now → IsClauseIn old raw → NamesClause now raw (clause_at old raw)

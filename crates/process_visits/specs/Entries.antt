@@ -8,10 +8,10 @@ use Rattle.spec_translation.specs.Conversion.{free_term, term_in, Fresh}
 use Rattle.spec_translation.specs.Visit.{Visit, is_large_visit, IsFresh, after_entry}
 use Rattle.spec_translation.specs.Choice.{Choice, EntryGoesOn}
 use Rattle.spec_translation.specs.Visited.{some_large}
-use Rattle.process_visits.specs.declared.visit.Visit as source
-use Rattle.process_visits.specs.declared.ways.Way.{Way}
-use Rattle.process_visits.specs.declared.ways.Way.TheVariants as ways
-use Rattle.process_visits.specs.Visits.{visit_at, IsVisitIn, NamesVisit}
+use Rattle.unified_visits.specs.declared.visit.Visit as source
+use Rattle.visit_choices.specs.declared.ways.Way.{Way}
+use Rattle.visit_choices.specs.declared.ways.Way.TheVariants as ways
+use Rattle.unified_visits.specs.Visits.{visit_at, IsVisitIn, NamesVisit}
 
 -- the visit with an entry, with new variables for the patterns
 pub record WithEntry (P : Protocol) (v : Visit) (table : ℕ) (patterns : List Pattern) (all : List Term) (made : source.Visit) : Type 0 where

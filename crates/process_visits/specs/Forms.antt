@@ -14,8 +14,8 @@ use Rattle.spec_translation.specs.Visit.{Visit, is_large_term, is_large_visit, s
 use Rattle.clause_form.specs.Seen.{NameClauses, IdClause, clause_at, IsClauseIn}
 use Rattle.clause_form.specs.Fit.{AreLowWithinLimit}
 use Rattle.process_visits.specs.declared.listing.Listing.{Listing}
-use Rattle.process_visits.specs.declared.visit.Visit as source
-use Rattle.process_visits.specs.Visits.{NamesVisit}
+use Rattle.unified_visits.specs.declared.visit.Visit as source
+use Rattle.unified_visits.specs.Visits.{NamesVisit}
 
 -- whether one of the terms is large in the scope
 abbrev pub are_large_in : Protocol → Scope → List calculus.Term → Bool

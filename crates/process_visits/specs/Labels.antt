@@ -5,9 +5,9 @@ use Rattle.spec_calculus.specs.Syntax.{Builds, Calls, Expression, Protocol}
 use Rattle.spec_calculus.specs.Choices.{choices, label_of}
 use Rattle.spec_choice_walks.specs.Instructions.{Instruction, Push, Apply, choices_by}
 use Rattle.spec_choice_walks.specs.Labels.{labels_by}
-use Rattle.process_visits.specs.declared.choice.Choosing.{Choosing}
-use Rattle.process_visits.specs.Places.{protocol_at}
-use Rattle.process_visits.specs.Walks.{instructions_of}
+use Rattle.visit_choices.specs.declared.choice.Choosing.{Choosing}
+use Rattle.unified_visits.specs.Places.{protocol_at}
+use Rattle.visit_choices.specs.Walks.{instructions_of}
 
 -- there are so many choices, and not too many
 pub record IsCounted (choosing : Choosing) : Type 0 where

@@ -8,7 +8,7 @@ use Rattle.spec_attack_runs.specs.Source.{Choice, Way, Reaches, Source, sources_
 use Rattle.spec_attack_runs.specs.Gathered.{visit_sources}
 use Rattle.clause_sources.specs.Bound.{numbered_in_bound}
 use Rattle.process_visits.specs.declared.listing.Listing.{Listing}
-use Rattle.process_visits.specs.declared.visit.Visit as source
+use Rattle.unified_visits.specs.declared.visit.Visit as source
 
 -- the way of a thread to a point of that number, where so much is known
 abbrev pub way_at : List Term → ℕ → source.Visit → List Choice → Way

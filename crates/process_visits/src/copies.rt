@@ -4,11 +4,11 @@ ghost use Rattle.std.specs.Prelude.{IfOk};
 ghost use Rattle.spec_calculus.specs.Bounds.{most_points};
 ghost use Rattle.spec_translation.specs.Visit as translation;
 ghost use Rattle.term_tree.specs.Bank.{Grows};
-ghost use Rattle.process_visits.specs.Visits.{visit_at, IsVisitIn, NamesVisit, HasFewCopies};
+ghost use Rattle.unified_visits.specs.Visits.{visit_at, IsVisitIn, NamesVisit, HasFewCopies};
 
-use crate::visit::Visit;
 use std::alloc::{AllocError, Global};
 use term_tree::Bank;
+use unified_visits::visit::Visit;
 
 /// The visit below a replication. On `Err` the bank may have grown.
 pub fn after_copy<B: Bank>(alloc: Global, bank: &mut B, visit: &Visit) -> Result<Visit, AllocError>

@@ -9,20 +9,21 @@ ghost use Rattle.spec_translation.specs.Visit.{event_terms};
 ghost use Rattle.spec_clauses.specs.Variables.{AreBelow};
 ghost use Rattle.term_tree.specs.Bank.{tree_at, AreKnown, Grows};
 ghost use Rattle.clause_terms.specs.Conditions.{HasShortTuples};
-ghost use Rattle.process_visits.specs.Places.{protocol_at};
+ghost use Rattle.unified_visits.specs.Places.{protocol_at};
 ghost use Rattle.process_visits.specs.Forms.{below_event, IsSmallVisit, EventAdds};
 ghost use Rattle.process_visits.specs.Telling.{TellsVisit};
-ghost use Rattle.process_visits.specs.Visits.{visit_at, IsVisitIn};
+ghost use Rattle.unified_visits.specs.Visits.{visit_at, IsVisitIn};
 
-use crate::large::{is_large_visit, some_large_term};
+use crate::large::some_large_term;
 use crate::listing::Listing;
-use crate::place::Place;
-use crate::visit::Visit;
 use clause_form::{Clause, Fact, Ids};
 use clause_terms::terms_in;
 use pi_tree::Atom;
 use std::alloc::{AllocError, Global};
 use term_tree::Bank;
+use unified_visits::place::Place;
+use unified_visits::sizes::is_large_visit;
+use unified_visits::visit::Visit;
 
 /// The raw clause of an event with these arguments.
 fn event_clause(

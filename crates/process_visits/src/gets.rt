@@ -14,23 +14,23 @@ ghost use Rattle.clause_terms.specs.Conditions.{HasShortTuples, IsShortPattern};
 ghost use Rattle.clause_terms.specs.Scopes.{scope_at, IsScopeIn};
 ghost use Rattle.process_visits.specs.Entries.{WithEntry, met_choice, IsEntryWay, EntryGoes};
 ghost use Rattle.process_visits.specs.Forms.{are_large_in};
-ghost use Rattle.process_visits.specs.Places.{protocol_at};
-ghost use Rattle.process_visits.specs.Spans.{IsSpan};
-ghost use Rattle.process_visits.specs.Visits.{visit_at, IsVisitIn};
+ghost use Rattle.unified_visits.specs.Places.{protocol_at};
+ghost use Rattle.unified_visits.specs.Spans.{IsSpan};
+ghost use Rattle.unified_visits.specs.Visits.{visit_at, IsVisitIn};
 
 use crate::forms::Get;
 use crate::large::is_large_term;
-use crate::numbers::bound_numbers_in;
-use crate::place::Place;
-use crate::spans::{Span, span_of};
-use crate::unified::visit_under;
-use crate::visit::Visit;
-use crate::ways::{Way, way_to};
 use clause_terms::{Holes, Scope, patterns_grown, row_scope, term_in};
 use pi_tree::{Pats, Term};
 use std::alloc::AllocError;
 use term_tree::Bank;
+use unified_visits::numbers::bound_numbers_in;
+use unified_visits::place::Place;
+use unified_visits::spans::{Span, span_of};
+use unified_visits::unified::visit_under;
+use unified_visits::visit::Visit;
 use unify_match::{Binds, unify};
+use visit_choices::ways::{Way, way_to};
 
 /// New variables for those that patterns bind, from the base on.
 fn span_in(place: &Place<'_>, base: u32, patterns: &Pats) -> Result<Span, AllocError>

@@ -8,19 +8,19 @@ ghost use Rattle.spec_translation.specs.Visit.{written_terms};
 ghost use Rattle.term_tree.specs.Bank.{Grows};
 ghost use Rattle.clause_terms.specs.Conditions.{HasShortTuples};
 ghost use Rattle.process_visits.specs.Forms.{Adds, insert_raw, is_large_insert, ShowsClause};
-ghost use Rattle.process_visits.specs.Places.{protocol_at};
+ghost use Rattle.unified_visits.specs.Places.{protocol_at};
 ghost use Rattle.process_visits.specs.Telling.{TellsVisit};
-ghost use Rattle.process_visits.specs.Visits.{visit_at, IsVisitIn};
+ghost use Rattle.unified_visits.specs.Visits.{visit_at, IsVisitIn};
 
 use crate::forms::Insert;
 use crate::large::some_large_term;
 use crate::listing::Listing;
-use crate::place::Place;
-use crate::visit::Visit;
 use clause_form::{Clause, Fact};
 use clause_terms::terms_in;
 use std::alloc::AllocError;
 use term_tree::Bank;
+use unified_visits::place::Place;
+use unified_visits::visit::Visit;
 
 /// The raw clause of an `insert`. On `Err` the bank may have grown.
 fn insert_clause<B: Bank>(

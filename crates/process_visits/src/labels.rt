@@ -6,13 +6,13 @@ ghost use Rattle.spec_calculus.specs.Syntax as calculus;
 ghost use Rattle.spec_choice_walks.specs.Instructions.{instructions};
 ghost use Rattle.term_values.specs.Instructions.{instruction_of};
 ghost use Rattle.process_visits.specs.Labels.{IsCounted, AreRulesAt, IsLabelAt, called_by};
-ghost use Rattle.process_visits.specs.Places.{protocol_at};
-ghost use Rattle.process_visits.specs.Walks.{instructions_of};
+ghost use Rattle.unified_visits.specs.Places.{protocol_at};
+ghost use Rattle.visit_choices.specs.Walks.{instructions_of};
 
-use crate::choice::Choosing;
 use clause_sources::Label;
 use std::alloc::{AllocError, Global};
 use term_values::{Instruction, rules_of};
+use visit_choices::choice::Choosing;
 
 /// The destructor that the instruction applies, if it does.
 fn destructor_of(instruction: &Instruction<'_>) -> Option<u32>

@@ -9,16 +9,16 @@ ghost use Rattle.clause_form.specs.Seen.{clause_at, IsClauseIn};
 ghost use Rattle.clause_sources.specs.Seen.{choice_of};
 ghost use Rattle.process_visits.specs.Forms.{Adds};
 ghost use Rattle.process_visits.specs.Telling.{TellsRaw, way_at};
-ghost use Rattle.process_visits.specs.Visits.{IsVisitIn};
+ghost use Rattle.unified_visits.specs.Visits.{IsVisitIn};
 
-use crate::place::Place;
 use crate::raw::is_large_raw;
-use crate::visit::Visit;
 use clause_form::{Clause, Clauses, read_out};
 use clause_norms::norms_of;
 use clause_sources::{Action, Choice, Choices, Sources, Way, add_sources, read_trees};
 use std::alloc::{AllocError, Global};
 use term_tree::Bank;
+use unified_visits::place::Place;
+use unified_visits::visit::Visit;
 
 /// What visits have added so far, and how many visits are left.
 #[derive(Drop)]

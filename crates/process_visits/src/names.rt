@@ -3,16 +3,16 @@
 ghost use Rattle.std.specs.Prelude.{◌≡◌, false, true, IfOk, IfSome, MatchOption};
 ghost use Rattle.spec_translation.specs.Visit as translation;
 ghost use Rattle.term_tree.specs.Bank.{Grows};
-ghost use Rattle.process_visits.specs.Visits.{visit_at, IsVisitIn, NamesVisit};
+ghost use Rattle.unified_visits.specs.Visits.{visit_at, IsVisitIn, NamesVisit};
 
-use crate::large::is_large_visit;
-use crate::place::Place;
-use crate::visit::Visit;
 use clause_terms::Standing;
 use name_abstraction::name_of_point;
 use pi_tree::Slot;
 use std::alloc::AllocError;
 use term_tree::Bank;
+use unified_visits::place::Place;
+use unified_visits::sizes::is_large_visit;
+use unified_visits::visit::Visit;
 
 /// The visit below a restriction. On `Err` the bank may have grown.
 fn with_name<B: Bank>(place: &Place<'_>, bank: &mut B, visit: &Visit) -> Result<Visit, AllocError>

@@ -10,22 +10,22 @@ ghost use Rattle.clause_form.specs.Facts.{fact_of};
 ghost use Rattle.clause_form.specs.Seen.{NamesFact};
 ghost use Rattle.clause_terms.specs.Conditions.{HasShortTuples};
 ghost use Rattle.clause_terms.specs.Scopes.{scope_at, IsScopeIn};
-ghost use Rattle.process_visits.specs.Places.{protocol_at};
+ghost use Rattle.unified_visits.specs.Places.{protocol_at};
 ghost use Rattle.process_visits.specs.Forms.{Adds, output_raw, is_large_output, ShowsClause};
 ghost use Rattle.process_visits.specs.Telling.{TellsVisit};
-ghost use Rattle.process_visits.specs.Visits.{visit_at, IsVisitIn};
+ghost use Rattle.unified_visits.specs.Visits.{visit_at, IsVisitIn};
 
 use crate::channels::sent;
 use crate::forms::Output;
 use crate::large::is_large_term;
 use crate::listing::Listing;
-use crate::place::Place;
-use crate::visit::Visit;
 use clause_form::{Clause, Fact};
 use clause_terms::term_in;
 use pi_tree::Term;
 use std::alloc::AllocError;
 use term_tree::Bank;
+use unified_visits::place::Place;
+use unified_visits::visit::Visit;
 
 /// That the message may be sent on the channel, where the output is visited. On `Err` the bank may have grown.
 fn sent_in<B: Bank>(

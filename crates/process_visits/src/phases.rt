@@ -3,10 +3,10 @@
 ghost use Rattle.std.specs.Prelude.{IfOk, List};
 ghost use Rattle.spec_terms.specs.Term.{Term};
 ghost use Rattle.spec_translation.specs.Visit as translation;
-ghost use Rattle.process_visits.specs.Visits.{visit_at, IsVisitIn, NamesVisit};
+ghost use Rattle.unified_visits.specs.Visits.{visit_at, IsVisitIn, NamesVisit};
 
-use crate::visit::Visit;
 use std::alloc::{AllocError, Global};
+use unified_visits::visit::Visit;
 
 /// The visit in the phase that begins.
 pub fn after_phase(alloc: Global, visit: &Visit, number: u32) -> Result<Visit, AllocError>

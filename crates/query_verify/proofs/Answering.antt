@@ -7,10 +7,10 @@ use Rattle.spec_translation.specs.Translation.{Clauses, LargeAt, IsTranslation}
 use Rattle.spec_certificates.specs.Certificate.{Certificate}
 use Rattle.spec_verdicts.specs.Verdict.{Proved, Budget, SizePair, SizePoint, Unmet}
 use Rattle.clause_form.specs.Seen.{clause_at, IdClause}
-use Rattle.clause_saturate.specs.declared.log.Entry.{Entry}
-use Rattle.clause_saturate.specs.declared.log.PlainEntry.{PlainEntry}
-use Rattle.clause_saturate.specs.Logs.{IsClosedLog, IsSpentLog, IsLargeLog}
-use Rattle.clause_saturate.specs.Plain.{plain_entry}
+use Rattle.log_entries.specs.declared.log.Entry.{Entry}
+use Rattle.log_entries.specs.declared.log.PlainEntry.{PlainEntry}
+use Rattle.log_entries.specs.Logs.{IsClosedLog, IsSpentLog, IsLargeLog}
+use Rattle.log_entries.specs.Plain.{plain_entry}
 use Rattle.query_derive.specs.GoalRows.{OfQuery}
 use Rattle.clause_translate.specs.Whole.{TranslatesTo, EndsAt}
 use Rattle.cert_writer.specs.declared.certified.Certified.{Certified}

@@ -19,13 +19,13 @@ use Rattle.spec_translation.specs.Translation.{Clauses, IsTranslation, goal_clau
 use Rattle.term_tree.specs.Bank.{Grows}
 use Rattle.clause_form.specs.Seen.{clause_at, AreClausesIn, NameClauses, IdClause}
 use Rattle.clause_form.specs.Fit.{AreFit}
-use Rattle.clause_saturate.specs.declared.log.Entry.{Entry}
-use Rattle.clause_saturate.specs.declared.log.Saturated.{Saturated}
+use Rattle.log_entries.specs.declared.log.Entry.{Entry}
+use Rattle.log_entries.specs.declared.log.Saturated.{Saturated}
 use Rattle.clause_saturate.specs.declared.common.Common.{Common}
-use Rattle.clause_saturate.specs.Logs.{IsLogOf, TellLog}
-use Rattle.clause_saturate.specs.Beating.{clauses_of}
+use Rattle.log_entries.specs.Logs.{IsLogOf, TellLog}
+use Rattle.log_entries.specs.Beating.{clauses_of}
 use Rattle.clause_saturate.specs.Common.{Shared, begun_log, begun_size, log_of, IsCommonOf, IsFreshCommon}
-use Rattle.clause_saturate.proofs.Giving.{number_given, numbered_goal}
+use Rattle.log_entries.proofs.Placing.{number_given, numbered_goal}
 use Rattle.clause_form.proofs.Copying.{NameClauses-grow}
 use Rattle.clause_form.proofs.Fit.{named_fit}
 use Rattle.clause_form.proofs.Low.{AreLowWithinLimit-grow}

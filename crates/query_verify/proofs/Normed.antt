@@ -14,8 +14,8 @@ use Rattle.spec_saturation.proofs.Pairs.{has_numbered, offers_normal}
 use Rattle.spec_translation.specs.Course.{TooLarge}
 use Rattle.spec_translation.specs.Translation.{Translated, Clauses, LargeAt, IsTranslation}
 use Rattle.clause_form.specs.Seen.{clause_at, IdClause}
-use Rattle.clause_saturate.specs.declared.log.PlainEntry.{PlainEntry}
-use Rattle.clause_saturate.specs.PlainLogs.{TellPlainFrom, TellPlainLog}
+use Rattle.log_entries.specs.declared.log.PlainEntry.{PlainEntry}
+use Rattle.log_entries.specs.PlainLogs.{TellPlainFrom, TellPlainLog}
 use Rattle.clause_translate.specs.Whole.{TranslatesTo}
 use Rattle.clause_instances.specs.Derivations.{HasNormedLog}
 use Rattle.query_verify.specs.Asked.{IsNeverLarge}

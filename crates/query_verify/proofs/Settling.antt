@@ -6,10 +6,10 @@ use Rattle.spec_clauses.specs.Fact.{Clause}
 use Rattle.spec_translation.specs.Translation.{LargeAt, IsTranslation, goal_clauses}
 use Rattle.spec_saturation.specs.End.{Spent, TooLarge, IsLog}
 use Rattle.spec_verdicts.specs.Verdict.{Budget, SizePair, SizePoint}
-use Rattle.clause_saturate.specs.declared.log.Entry.{Entry}
-use Rattle.clause_saturate.specs.declared.log.PlainEntry.{PlainEntry}
+use Rattle.log_entries.specs.declared.log.Entry.{Entry}
+use Rattle.log_entries.specs.declared.log.PlainEntry.{PlainEntry}
 use Rattle.clause_saturate.specs.Common.{IsSpentCommon, IsLargeCommon}
-use Rattle.clause_saturate.specs.Plain.{plain_entry}
+use Rattle.log_entries.specs.Plain.{plain_entry}
 use Rattle.query_verify.specs.declared.answers.Verdict.TheVariants as made
 use Rattle.query_verify.specs.Settled.{AreCommonTo, shared_by}
 use Rattle.query_verify.specs.Told.{IsAnswer}

@@ -2,11 +2,11 @@
 use Rattle.std.proofs.Common.{◌≡◌, ◌∙◌, ℕ, suc, None, List, [], ◌∷◌, length, map, ap, sym, subst, refl}
 use Rattle.spec_terms.specs.Term.{Term}
 use Rattle.spec_saturation.specs.Key as offered
-use Rattle.clause_saturate.specs.declared.log.Entry.{Entry}
-use Rattle.clause_saturate.specs.declared.log.PlainEntry.{PlainEntry}
-use Rattle.clause_saturate.specs.Logs.{IsOrigin, TellsEntry, TellEntries, TellLog}
-use Rattle.clause_saturate.specs.Plain.{plain_entry}
-use Rattle.clause_saturate.specs.PlainLogs.{TellPlainFrom, TellPlainLog, TellsDue}
+use Rattle.log_entries.specs.declared.log.Entry.{Entry}
+use Rattle.log_entries.specs.declared.log.PlainEntry.{PlainEntry}
+use Rattle.log_entries.specs.Logs.{IsOrigin, TellsEntry, TellEntries, TellLog}
+use Rattle.log_entries.specs.Plain.{plain_entry}
+use Rattle.log_entries.specs.PlainLogs.{TellPlainFrom, TellPlainLog, TellsDue}
 
 plain_from : (all : List Term) (log : List offered.Entry) (n : ℕ) (entries : List Entry) (es : List offered.Entry) → TellEntries all log n entries es → TellPlainFrom log n (map (plain_entry all) entries) es
 plain_from all log n [] [] t = tt

@@ -13,8 +13,8 @@ use Rattle.pi_tree.specs.Accessors.{IsThere}
 use Rattle.pi_tree.specs.declared.accessors.Kind.TheVariants as kinds
 use Rattle.query_derive.specs.GoalRows.{OfQuery}
 use Rattle.clause_translate.specs.Whole.{TranslatesTo, IsLargeAt}
-use Rattle.clause_saturate.specs.declared.log.PlainEntry.{PlainEntry}
-use Rattle.clause_saturate.specs.PlainLogs.{TellPlainLog}
+use Rattle.log_entries.specs.declared.log.PlainEntry.{PlainEntry}
+use Rattle.log_entries.specs.PlainLogs.{TellPlainLog}
 use Rattle.query_verify.specs.declared.question.Question.{Question}
 use Rattle.query_verify.specs.declared.answers.Verdict.{Verdict}
 use Rattle.query_verify.specs.Told.{Tells, IsAnswer}

@@ -7,9 +7,9 @@ use Rattle.spec_terms.specs.Term.{Term, coded_term}
 use Rattle.spec_clauses.specs.Fact.{Clause}
 use Rattle.spec_certificates.specs.Certificate.{Certificate}
 use Rattle.clause_form.specs.Codes.{coded_clause}
-use Rattle.clause_saturate.specs.declared.log.Origin.{Origin}
-use Rattle.clause_saturate.specs.declared.log.PlainEntry.{PlainEntry}
-use Rattle.clause_saturate.specs.Codes.{coded_origin, coded_plain_entries}
+use Rattle.log_entries.specs.declared.log.Origin.{Origin}
+use Rattle.log_entries.specs.declared.log.PlainEntry.{PlainEntry}
+use Rattle.log_entries.specs.Codes.{coded_origin, coded_plain_entries}
 use Rattle.cert_form.specs.Codes.{coded_certificate}
 use Rattle.run_replay.specs.Codes.{coded_steps}
 use Rattle.query_verify.specs.declared.answers.Verdict.{Verdict}

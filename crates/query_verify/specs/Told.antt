@@ -5,7 +5,7 @@ use Rattle.spec_attack_runs.specs.Attack.{Reconstructed}
 use Rattle.spec_verdicts.specs.Verdict.{Verdict, Proved, Budget, SizePair, SizePoint, Unmet, IsVerdict}
 use Rattle.query_verify.specs.declared.answers.Verdict as told
 use Rattle.query_verify.specs.declared.answers.Verdict.TheVariants as made
-use Rattle.clause_saturate.specs.PlainLogs.{TellPlainLog, TellsDue}
+use Rattle.log_entries.specs.PlainLogs.{TellPlainLog, TellsDue}
 
 -- what is told is the verdict: the same certificate, numbers and point, and entries that tell the log; in place of an entry that isn't
 -- satisfied the attack that it tells, and the entry where it tells none

@@ -11,7 +11,7 @@ ghost use Rattle.pi_tree.specs.declared.accessors.Kind.TheVariants.{Query as OfQ
 ghost use Rattle.term_tree.specs.Bank.{Grows};
 ghost use Rattle.clause_form.specs.Seen.{clause_at};
 ghost use Rattle.query_derive.specs.GoalRows.{OfQuery};
-ghost use Rattle.clause_saturate.specs.Logs.{IsLogOf, IsClosedLog};
+ghost use Rattle.log_entries.specs.Logs.{IsLogOf, IsClosedLog};
 ghost use Rattle.cert_writer.specs.Known.{IsKnown};
 ghost use Rattle.clause_instances.specs.Derivations.{HasNormedLog};
 ghost use Rattle.query_verify.specs.Asked.{CanBeAsked, AreAskedOf, Answers, protocol_at, IsNeverLarge, TellsUnmet};

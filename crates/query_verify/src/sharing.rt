@@ -8,7 +8,7 @@ ghost use Rattle.spec_well_formed.specs.WellFormed.{IsWellScoped};
 ghost use Rattle.pi_tree.specs.Protocols.{protocol_of};
 ghost use Rattle.term_tree.specs.Bank.{Grows};
 ghost use Rattle.clause_form.specs.Seen.{clause_at};
-ghost use Rattle.clause_saturate.specs.Logs.{IsLogOf};
+ghost use Rattle.log_entries.specs.Logs.{IsLogOf};
 ghost use Rattle.clause_saturate.specs.Common.{Shared, saturated, begun_log, begun_size, log_of, IsCommonOf, IsFreshCommon};
 ghost use Rattle.clause_translate.specs.Whole.{IsCommonTo};
 ghost use Rattle.cert_writer.specs.Known.{IsKnown};

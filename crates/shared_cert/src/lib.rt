@@ -4,8 +4,6 @@
 mod certs;
 mod clauses;
 mod spelling;
-#[cfg(test)]
-mod tests;
 
 pub use crate::certs::SharedCert;
 pub use crate::clauses::SharedClauses;

@@ -9,3 +9,4 @@ pub mod Behind
 pub mod Reading
 pub mod Stacks
 pub mod Trying
+pub mod Sharing

@@ -1,6 +1,7 @@
 //! What a thread has bound: its variables, and the names that its restrictions made.
 
 ghost use Rattle.std.specs.Prelude.{◌≡◌, [], ◌∷◌, ◌++◌, option_map, IfOk, OnOk, OnErr};
+ghost use Rattle.std.specs.Rc.{rc_value};
 ghost use Rattle.spec_calculus.specs.Values.{bound_to};
 ghost use Rattle.pi_tree.specs.Values.{value_of};
 ghost use Rattle.pi_tree.specs.Slots.{name_of};
@@ -8,12 +9,20 @@ ghost use Rattle.pi_tree.specs.Slots.{name_of};
 use pi_tree::{Slot, Value};
 use std::alloc::{AllocError, Global};
 use std::marker::Model;
+use std::rc::Rc;
+
+/// A slot with what it is bound to, which copies of an environment share.
+#[derive(Debug, Drop)]
+struct Binding {
+    slot: Slot,
+    value: Rc<Value>,
+}
 
 /// Slots with what they are bound to, in the order in which they were bound; of two of one slot the
-/// earlier counts.
+/// earlier counts. Copies share the values.
 #[derive(Debug, Drop)]
 pub struct Environment {
-    pub items: Vec<(Slot, Value)>,
+    items: Vec<Binding>,
 }
 
 impl Model for Environment {
@@ -40,16 +49,37 @@ impl Environment {
         }
     }
 
+    /// What the slot is bound to, if it is, for those who go on to share it.
+    pub(crate) fn shared(&self, slot: Slot) -> Option<&Rc<Value>>
+        ensures { option_map (λ v. value_of (rc_value v.now)) result ≡
+            bound_to self.now (name_of slot) }
+    {
+        for binding in &self.items {
+            if binding.slot.is(slot) {
+                return Some(&binding.value);
+            }
+        }
+        None
+    }
+
     /// What the slot is bound to, if it is.
     pub fn look_up(&self, slot: Slot) -> Option<&Value>
         ensures { option_map (λ v. value_of v.now) result ≡ bound_to self.now (name_of slot) }
     {
-        for binding in &self.items {
-            if binding.0.is(slot) {
-                return Some(&binding.1);
-            }
+        match self.shared(slot) {
+            None => None,
+            Some(value) => Some(value.as_ref()),
         }
-        None
+    }
+
+    /// One more binding, at the end, to a value that others may have too. On `Err` there is none more.
+    pub(crate) fn bind_shared(&mut self, slot: Slot, value: Rc<Value>) -> Result<(), AllocError>
+        ensures ok { OnOk result (self.new ≡ self.old ++ record
+            { name = name_of slot; value = value_of (rc_value value) } ∷ []) }
+        ensures err { OnErr result (self.new ≡ self.old) }
+    {
+        self.items.push(Binding { slot, value })?;
+        Ok(())
     }
 
     /// One more binding, at the end. On `Err` there is none more.
@@ -58,17 +88,19 @@ impl Environment {
             { name = name_of slot; value = value_of value } ∷ []) }
         ensures err { OnErr result (self.new ≡ self.old) }
     {
-        self.items.push((slot, value))?;
-        Ok(())
+        let value = Rc::new(*self.items.allocator(), value)?;
+        self.bind_shared(slot, value)
     }
 
-    /// A copy, binding by binding.
+    /// A copy, which shares the values.
     pub fn copy(&self, alloc: Global) -> Result<Environment, AllocError>
         ensures { IfOk result (λ copied. copied ≡ self.now) }
     {
         let mut items = Vec::with_capacity(alloc, self.items.len())?;
         for binding in &self.items {
-            items.push((binding.0, binding.1.copy(alloc)?))?;
+            let value = binding.value.clone()?;
+            let slot = binding.slot;
+            items.push(Binding { slot, value })?;
         }
         Ok(Environment { items })
     }

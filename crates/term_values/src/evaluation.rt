@@ -1,6 +1,7 @@
 //! Values of terms in an environment (Blanchet 2016, section 2.2).
 
 ghost use Rattle.std.specs.Prelude.{◌≡◌, map, IfOk};
+ghost use Rattle.std.specs.Rc.{rc_value};
 ghost use Rattle.spec_calculus.specs.Values as calculus;
 ghost use Rattle.spec_calculus.specs.Values.{same_value, same_values};
 ghost use Rattle.pi_tree.specs.Terms.{term_of};
@@ -13,6 +14,7 @@ use crate::environments::Environment;
 use destructor_rules::is_same;
 use pi_tree::{Slot, Term, Terms, Value, Values};
 use std::alloc::{AllocError, Global};
+use std::rc::Rc;
 
 /// What the slot is bound to; a slot that is not bound is the free name 0, which nothing declares.
 fn bound_value(slot: Slot, alloc: Global, environment: &Environment) -> Result<Value, AllocError>
@@ -58,6 +60,47 @@ pub fn evaluate_all(
         items.push(evaluate(term, alloc, environment)?)?;
     }
     Ok(Values { items })
+}
+
+/// What the slot is bound to, shared with the environment; a slot that is not bound is the free name 0, which nothing declares.
+fn bound_shared(
+    slot: Slot,
+    alloc: Global,
+    environment: &Environment,
+) -> Result<Rc<Value>, AllocError>
+    ensures { IfOk result (λ v. value_of (rc_value v) ≡
+        calculus.value_of_bound environment.now (name_of slot)) }
+{
+    match environment.shared(slot) {
+        Some(value) => {
+            let held = value.clone()?;
+            Ok(held)
+        }
+        None => {
+            let held = Rc::new(alloc, Value::Free(0))?;
+            Ok(held)
+        }
+    }
+}
+
+/// The value of the term; that of a variable or of a restriction's name is shared with the environment.
+pub fn evaluate_shared(
+    term: &Term,
+    alloc: Global,
+    environment: &Environment,
+) -> Result<Rc<Value>, AllocError>
+    ensures { IfOk result (λ v. value_of (rc_value v) ≡
+        calculus.value_of environment.now (term_of term.now)) }
+{
+    match term {
+        Term::Var(number) => bound_shared(Slot::Var(*number), alloc, environment),
+        Term::Made(point) => bound_shared(Slot::Made(*point), alloc, environment),
+        Term::Free(_) | Term::App(..) | Term::Tuple(_) => {
+            let value = evaluate(term, alloc, environment)?;
+            let held = Rc::new(alloc, value)?;
+            Ok(held)
+        }
+    }
 }
 
 /// Whether the slot is bound to the value.

@@ -15,10 +15,10 @@ pub mod trials;
 
 pub use crate::bindings::Bound;
 pub use crate::environments::Environment;
-pub use crate::evaluation::{are_values_of, evaluate, evaluate_all, is_value_of};
+pub use crate::evaluation::{are_values_of, evaluate, evaluate_all, evaluate_shared, is_value_of};
 pub use crate::instructions::{Instruction, list_instructions};
 pub use crate::labels::{Context, Valued, value_at};
-pub use crate::matching::{matched, matched_row};
+pub use crate::matching::{matched, matched_row, matched_shared};
 pub use crate::rules::{rules_of, value_by_rule};
 pub use crate::searching::some_value_matches;
 pub use crate::sizes::{is_large, is_large_term, some_large_at};

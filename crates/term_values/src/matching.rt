@@ -1,6 +1,7 @@
 //! Matching a value against a pattern (Blanchet 2016, section 2.1).
 
 ghost use Rattle.std.specs.Prelude.{◌≡◌, ◌++◌, map, cond, Some, None, option_map, IfOk};
+ghost use Rattle.std.specs.Rc.{rc_value};
 ghost use Rattle.spec_trees.specs.Tree.{trees};
 ghost use Rattle.spec_calculus.specs.Matching.{matched, matched_row};
 ghost use Rattle.spec_calculus.specs.Tables.{row_pattern, row_value};
@@ -12,6 +13,7 @@ use crate::environments::Environment;
 use crate::evaluation::is_value_of;
 use pi_tree::{Pat, Pats, Slot, Value};
 use std::alloc::{AllocError, Global};
+use std::rc::Rc;
 
 /// Whether the value matches the pattern; what the pattern binds then stands at the end of the bindings.
 #[cycle(matches)]
@@ -91,6 +93,29 @@ pub fn matched(
         Ok(Some(bindings))
     } else {
         Ok(None)
+    }
+}
+
+/// What the pattern binds where the value matches it; a pattern that is a variable shares the value.
+pub fn matched_shared(
+    alloc: Global,
+    environment: &Environment,
+    pattern: &Pat,
+    value: &Rc<Value>,
+) -> Result<Option<Environment>, AllocError>
+    ensures { IfOk result (λ o. o ≡ matched environment.now (pattern_of pattern.now)
+        (value_of (rc_value value.now))) }
+{
+    match pattern {
+        Pat::Bind(number) => {
+            let held = value.clone()?;
+            let mut bindings = Environment::new(alloc);
+            bindings.bind_shared(Slot::Var(*number), held)?;
+            Ok(Some(bindings))
+        }
+        Pat::Equal(_) | Pat::App(..) | Pat::Tuple(_) => {
+            matched(alloc, environment, pattern, value)
+        }
     }
 }
 

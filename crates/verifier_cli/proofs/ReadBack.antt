@@ -26,7 +26,7 @@ use Rattle.spec_run_text.specs.Spelling.{line_of}
 use Rattle.spec_node_reading.specs.Readable.{SpellsCertificate}
 use Rattle.spec_node_reading.specs.Reports.{SpellsClaim, SpellsClaims, SpellsReport}
 use Rattle.cert_form.specs.Writing.{format_for, text_in}
-use Rattle.clause_saturate.specs.declared.log.PlainEntry.{PlainEntry}
+use Rattle.log_entries.specs.declared.log.PlainEntry.{PlainEntry}
 use Rattle.cert_checker.specs.declared.ruling.Ruling.{Ruling}
 use Rattle.cert_checker.specs.declared.ruling.Ruling.TheVariants.{Accepted, Shape, Translation, Cover, Closure, Goal, Extra}
 use Rattle.cert_checker.specs.Rulings.{ruling_of}

@@ -16,7 +16,7 @@ use Rattle.spec_terms.specs.Term.{Term}
 use Rattle.spec_clauses.specs.Fact.{Clause}
 use Rattle.spec_certificate_text.specs.Text.{clause_text}
 use Rattle.cert_form.specs.Writing.{text_in, format_for}
-use Rattle.clause_saturate.specs.declared.log.PlainEntry.{PlainEntry}
+use Rattle.log_entries.specs.declared.log.PlainEntry.{PlainEntry}
 use Rattle.spec_certificate_text.specs.Terms as report
 use Rattle.cert_checker.specs.declared.ruling.Ruling.{Ruling}
 use Rattle.cert_checker.specs.declared.ruling.Ruling.TheVariants.{Accepted, Shape, Translation, Cover, Closure, Goal, Extra}

@@ -3,6 +3,7 @@
 use crate::certificate_rows::lines::{Change, changed, line_count};
 use cert_form::{Cert, format_for, write_cert};
 use cert_text::{CertError, Claim, Claims, code_and_place, read_cert, read_report};
+use clause_form::PlainClause;
 use pi_tree::Protocol;
 use std::alloc::{AllocError, Global};
 use term_reader::has_few_names;
@@ -79,6 +80,36 @@ fn nodes_text(alloc: Global, protocol: &Protocol, cert: &Cert) -> Result<String,
 pub fn nodes(alloc: Global, protocol: &Protocol, bytes: &[u8]) -> Result<String, AllocError> {
     match certificate_in(alloc, protocol, bytes) {
         Ok((cert, _)) => nodes_text(alloc, protocol, &cert),
+        Err(refusal) => refusal_text(alloc, &refusal),
+    }
+}
+
+/// Adds the constraints of a clause: the number from which on each binds variables, its left sides and its right ones.
+fn add_constraints(
+    alloc: Global,
+    clause: &PlainClause,
+    text: &mut String,
+) -> Result<(), AllocError> {
+    for diff in &clause.diffs.items {
+        let (left, right) = (&diff.left.items, &diff.right.items);
+        text.push_str(format!(in alloc; "{} {left:?} {right:?}.", diff.first)?.as_str())?;
+    }
+    Ok(())
+}
+
+/// The constraints of the clauses of a certificate.
+fn constraints_text(alloc: Global, cert: &Cert) -> Result<String, AllocError> {
+    let mut text = String::new(alloc);
+    for clause in &cert.clauses.items {
+        add_constraints(alloc, clause, &mut text)?;
+    }
+    Ok(text)
+}
+
+/// The same of the certificate at the front of the bytes.
+pub fn constraints(alloc: Global, protocol: &Protocol, bytes: &[u8]) -> Result<String, AllocError> {
+    match certificate_in(alloc, protocol, bytes) {
+        Ok((cert, _)) => constraints_text(alloc, &cert),
         Err(refusal) => refusal_text(alloc, &refusal),
     }
 }

@@ -5,7 +5,7 @@
 //! of the report or the certificate that was set last.
 
 use crate::certificate_rows::lines::Change;
-use crate::certificate_rows::reading::{answer, changes, claims, fronts, nodes};
+use crate::certificate_rows::reading::{answer, changes, claims, constraints, fronts, nodes};
 use crate::certificate_rows::settings::Setting;
 use crate::certificate_rows::texts::text_of;
 use pi_tree::Protocol;
@@ -17,14 +17,16 @@ use table_rows::{Line, compared, named};
 #[derive(Clone, Copy)]
 enum Row {
     Nodes,
+    Constraints,
     Claims,
     Fronts,
     Changes(Change),
 }
 
 /// The first words of these rows.
-const ROWS: [(&str, Row); 6] = [
+const ROWS: [(&str, Row); 7] = [
     ("nodes", Row::Nodes),
+    ("constraints", Row::Constraints),
     ("claims", Row::Claims),
     ("fronts", Row::Fronts),
     ("left_out", Row::Changes(Change::LeftOut)),
@@ -69,6 +71,7 @@ fn line_for(
 fn shown(alloc: Global, protocol: &Protocol, file: &[u8], row: Row) -> Result<String, AllocError> {
     match row {
         Row::Nodes => nodes(alloc, protocol, file),
+        Row::Constraints => constraints(alloc, protocol, file),
         Row::Claims => claims(alloc, protocol, file),
         Row::Fronts => fronts(alloc, protocol, file),
         Row::Changes(change) => changes(alloc, protocol, file, change),

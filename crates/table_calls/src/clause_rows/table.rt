@@ -3,6 +3,7 @@
 ghost use Rattle.clause_form.specs.Seen.{IsClauseIn};
 
 use crate::clause_rows::declarations::DeclarationTable;
+use crate::clause_rows::fingerprints::meeting_text;
 use crate::clause_rows::goals::GoalTable;
 use crate::clause_rows::pairs::PairTable;
 use crate::clause_rows::tables::ClauseTable;
@@ -33,10 +34,12 @@ pub enum PairKind {
     Clauses(PairTable),
     /// For the lists of terms in them.
     Lists(TermTable),
+    /// For the fingerprints of their conclusions.
+    Fingerprints,
 }
 
 /// The tables, by the names of their files.
-const TABLES: [(&str, Table); 24] = [
+const TABLES: [(&str, Table); 25] = [
     ("norms.txt", Table::Single(ClauseTable::Norms)),
     ("norm_lists.txt", Table::Single(ClauseTable::NormLists)),
     ("parts.txt", Table::Single(ClauseTable::Parts)),
@@ -59,6 +62,7 @@ const TABLES: [(&str, Table); 24] = [
         "candidates.txt",
         Table::Pair(PairKind::Clauses(PairTable::Candidates)),
     ),
+    ("fingerprints.txt", Table::Pair(PairKind::Fingerprints)),
     (
         "unifiers.txt",
         Table::Pair(PairKind::Lists(TermTable::Unifiers)),
@@ -169,6 +173,7 @@ impl PairKind {
         match self {
             PairKind::Clauses(table) => table.shown_in(alloc, bank, first, second),
             PairKind::Lists(table) => table.shown_in(alloc, bank, first, second),
+            PairKind::Fingerprints => meeting_text(alloc, bank, first, second),
         }
     }
 }

@@ -4,7 +4,7 @@ ghost use Rattle.std.specs.Prelude.{◌<◌, length, OnOk, IfOk, IfSome};
 ghost use Rattle.term_tree.specs.Bank.{Grows};
 ghost use Rattle.clause_form.specs.Seen.{IsClauseIn, AreClausesIn};
 ghost use Rattle.clause_form.specs.Fit.{IsFit, AreFit};
-ghost use Rattle.clause_saturate.specs.Beating.{clauses_of};
+ghost use Rattle.log_entries.specs.Beating.{clauses_of};
 
 use crate::clause_rows::pairs::fit_clause;
 use crate::log_rows::texts::{add_due, add_entries, add_large};

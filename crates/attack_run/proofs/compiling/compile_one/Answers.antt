@@ -19,7 +19,7 @@ returns-in-None-clause-does c = λ st one is named at.
     let source : Source = c.args.source.now in
     let f = c.in-Builds.constructor in
     let terms : List Term = map (tree_at all) c.deref.result.now in
-    let builds : source.action ≡ Builds f = sym (ap (λ (s : Source). s.action) c.source.view_is) ∙ ap action_of c.in-Builds.is in
+    let builds : source.action ≡ Builds f = sym c.action.ensures ∙ ap action_of c.in-Builds.is in
     let held : c.deref.result.now ≡ ids.supposed = search rules in
     applies_stuck P one st (λ ks. Build f ks) terms (builds_as P one st f terms (builds_named all sources ids one source named at f builds) (ap (map (tree_at all)) held ∙ named.supposed_named.are))
     (placed_nothing (row_placed P (trees terms)) st all c.places.new.self c.in_ok-places-in-Builds.field-0 c.in-None.is (c.in_ok-places-in-Builds.ensures.places st is))
@@ -34,7 +34,7 @@ returns-in-None-2-clause-does c = λ st one is named at.
     let d = c.in-Reduces.destructor in
     let r = c.in-Reduces.rule in
     let terms : List Term = map (tree_at all) c.deref-in-Reduces.result.now in
-    let reduces : source.action ≡ Reduces d r = sym (ap (λ (s : Source). s.action) c.source.view_is) ∙ ap action_of c.in-Reduces.is in
+    let reduces : source.action ≡ Reduces d r = sym c.action.ensures ∙ ap action_of c.in-Reduces.is in
     let held : c.deref-in-Reduces.result.now ≡ ids.supposed = search rules in
     applies_stuck P one st (λ ks. Reduce d r ks) terms (reduces_as P one st d r terms (reduces_named all sources ids one source named at d r reduces) (ap (map (tree_at all)) held ∙ named.supposed_named.are))
     (placed_nothing (row_placed P (trees terms)) st all c.places-in-Reduces.new.self c.in_ok-places-in-Reduces.field-0 c.in-None-2.is (c.in_ok-places-in-Reduces.ensures.places st is))

@@ -10,7 +10,7 @@ use Rattle.clause_form.specs.Fit.{AreFit, clauses_at}
 use Rattle.clause_form.specs.Seen.{IdClause}
 use Rattle.cert_checker.specs.Reached.{HasShapes}
 use Rattle.cert_checker.specs.Rulings.{ruling_of}
-use Rattle.cert_checker.proofs.Lowered.{lowered_fit}
+use Rattle.cert_stages.proofs.Lowered.{lowered_fit}
 use Rattle.cert_checker.proofs.checking.check_lowered.Goals as goal
 
 pub check_shaped-requires-clause-fit : goal.check_shaped-requires-clause-fit

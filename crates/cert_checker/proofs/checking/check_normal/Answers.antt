@@ -1,7 +1,7 @@
 use Rattle.std.proofs.Common.{arith}
 use Rattle.term_tree.proofs.BankLaws.{Grows-length}
 use Rattle.clause_resolve.proofs.Answering.{as_before}
-use Rattle.cert_checker.proofs.Lowered.{unconstrained_fit}
+use Rattle.cert_stages.proofs.Lowered.{unconstrained_fit}
 use Rattle.cert_checker.proofs.checking.check_normal.Goals as goal
 
 pub check_shaped-requires-clause-fit : goal.check_shaped-requires-clause-fit

@@ -7,8 +7,8 @@ use Rattle.pi_tree.specs.Protocols.{protocol_of}
 use Rattle.query_derive.specs.GoalRows.{OfQuery}
 use Rattle.clause_translate.specs.Whole.{IsKept}
 use Rattle.clause_translate.specs.declared.whole.Translated.{Translated}
-use Rattle.cert_checker.specs.Answers.{IsShownSo}
-use Rattle.cert_checker.specs.Checked.{cert_in}
+use Rattle.cert_stages.specs.Answers.{IsShownSo}
+use Rattle.cert_stages.specs.Checked.{cert_in}
 use Rattle.cert_checker.specs.Reached.{HasShapes, IsTranslatedTo}
 use Rattle.cert_checker.specs.Rulings.{ruling_of}
 use Rattle.clause_form.specs.Fit.{AreFit, clauses_at}

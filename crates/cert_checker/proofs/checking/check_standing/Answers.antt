@@ -6,10 +6,10 @@ use Rattle.pi_tree.specs.Protocols.{protocol_of}
 use Rattle.query_derive.specs.GoalRows.{OfQuery}
 use Rattle.query_derive.proofs.Searching.{if_ok_map}
 use Rattle.clause_form.specs.Seen.{AreClausesIn}
-use Rattle.cert_checker.specs.Checked.{cert_in}
+use Rattle.cert_stages.specs.Checked.{cert_in}
 use Rattle.cert_checker.specs.Reached.{HasShapes}
 use Rattle.cert_checker.specs.Rulings.{ruling_of}
-use Rattle.cert_checker.proofs.Fitting.{shaped_normal}
+use Rattle.cert_stages.proofs.Fitting.{shaped_normal}
 use Rattle.cert_checker.proofs.Reaching.{shapes_are, shapes_met, shapes_rule}
 use Rattle.cert_checker.proofs.checking.check_standing.Goals as goal
 

@@ -4,8 +4,8 @@ use Rattle.spec_certificates.specs.Ruling.{IsRuled}
 use Rattle.pi_tree.specs.Protocols.{protocol_of}
 use Rattle.query_derive.specs.GoalRows.{OfQuery}
 use Rattle.query_derive.proofs.Searching.{if_ok_map}
-use Rattle.cert_checker.specs.Answers.{IsShownSo}
-use Rattle.cert_checker.specs.Checked.{cert_in}
+use Rattle.cert_stages.specs.Answers.{IsShownSo}
+use Rattle.cert_stages.specs.Checked.{cert_in}
 use Rattle.cert_checker.specs.Reached.{IsTranslatedTo, HasCovered}
 use Rattle.cert_checker.specs.Rulings.{ruling_of}
 use Rattle.cert_checker.proofs.Reaching.{covers_reached, covers_rule}

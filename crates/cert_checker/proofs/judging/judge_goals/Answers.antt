@@ -3,8 +3,8 @@ use Rattle.spec_certificates.specs.Certificate.{GoalHolds}
 use Rattle.spec_certificates.specs.Ruling.{bad_ones}
 use Rattle.pi_tree.specs.Protocols.{protocol_of}
 use Rattle.cert_checker.specs.Rulings.{ruling_of}
-use Rattle.cert_checker.specs.Checked.{cert_in}
-use Rattle.cert_checker.specs.Answers.{numbered_at, IsShownSo}
+use Rattle.cert_stages.specs.Checked.{cert_in}
+use Rattle.cert_stages.specs.Answers.{numbered_at, IsShownSo}
 use Rattle.cert_checker.proofs.Composing.{goal_fails, all_met}
 use Rattle.cert_checker.proofs.judging.judge_goals.Goals as goal
 

@@ -5,7 +5,7 @@ use Rattle.query_derive.specs.GoalRows.{OfQuery}
 use Rattle.query_derive.proofs.Searching.{if_ok_map}
 use Rattle.spec_certificates.specs.Ruling.{IsRuled}
 use Rattle.clause_form.specs.Fit.{AreFit}
-use Rattle.cert_checker.specs.Checked.{cert_in}
+use Rattle.cert_stages.specs.Checked.{cert_in}
 use Rattle.cert_checker.specs.Reached.{HasCovered, HasClosed}
 use Rattle.cert_checker.specs.Rulings.{ruling_of}
 use Rattle.cert_checker.proofs.Reaching.{pairs_reached, pairs_rule}
@@ -30,7 +30,7 @@ returns-in-Except-clause-ruled g c = λ q asked reached.
     let P = protocol_of c.args.checker.now.protocol.now in
     let all = g.B.Bank.trees c.args.bank.now in
     let cert = cert_in all c.args.checker.now in
-    pairs_rule P q cert all c.args.checker.now.clauses.now refl c.args.row c.in-Except.ruling _ c.in-Except.is c.in_ok-next.ensures.closed reached
+    pairs_rule P q cert all c.args.checker.now.clauses.now refl c.args.row c.in-Except.pair _ c.in-Except.is c.in_ok-next.ensures.closed reached
 
 pub returns-in-All-clause-bank : goal.returns-in-All-clause-bank
 returns-in-All-clause-bank g c = c.are_closed.ensures.bank

@@ -1,7 +1,7 @@
 use Rattle.std.proofs.Common.{◌≡◌, ◌∙◌, ◌+◌, length, map, drop, ap, sym, subst, rules, arith}
 use Rattle.std.proofs.lemmas.List.{length-map}
 use Rattle.spec_certificates.specs.Ruling.{Extra, NoneLeft}
-use Rattle.cert_checker.specs.Checked.{cert_in}
+use Rattle.cert_stages.specs.Checked.{cert_in}
 use Rattle.cert_checker.proofs.Leftovers.{row_left, goal_left}
 use Rattle.cert_checker.proofs.left_over.left_over.Goals as goal
 

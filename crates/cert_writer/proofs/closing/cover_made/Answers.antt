@@ -3,7 +3,7 @@ use Rattle.std.specs.Prelude.{OnOk}
 use Rattle.spec_terms.specs.Term.{Term}
 use Rattle.spec_clauses.specs.Fact.{Clause}
 use Rattle.spec_saturation.specs.Live.{MustBeCovered}
-use Rattle.clause_saturate.proofs.Found.{front_grows}
+use Rattle.log_entries.proofs.Placing.{front_grows}
 use Rattle.clause_form.proofs.Fit.{clauses_grow}
 use Rattle.clause_form.specs.Fit.{clauses_at}
 use Rattle.cert_writer.specs.Adding.{AddsRows}

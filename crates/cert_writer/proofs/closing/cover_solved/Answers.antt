@@ -9,7 +9,7 @@ use Rattle.clause_form.specs.Seen.{clause_at, IdClause}
 use Rattle.clause_form.specs.Fit.{IsFit, clauses_at}
 use Rattle.cert_writer.specs.Ready.{IsReady, AreTold}
 use Rattle.cert_writer.specs.Adding.{AddsPairs, pairs_of_two, MustClose}
-use Rattle.clause_saturate.proofs.Scanning.{place_among}
+use Rattle.log_entries.proofs.Numbers.{place_among}
 use Rattle.cert_writer.proofs.Unsolved.{none_reached, more_reached, all_reached, places_are, places_ascend, place_within}
 use Rattle.cert_writer.proofs.closing.cover_solved.Goals as goal
 

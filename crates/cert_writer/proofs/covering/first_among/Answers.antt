@@ -1,7 +1,7 @@
 use Rattle.std.proofs.Common.{ℕ, List, get_or, refl, arith}
 use Rattle.spec_clauses.specs.Subsumption.{RowHolds, IsFirstRow}
 use Rattle.clause_form.specs.Seen.{clause_at}
-use Rattle.clause_saturate.proofs.Scanning.{place_among}
+use Rattle.log_entries.proofs.Numbers.{place_among}
 use Rattle.cert_writer.proofs.Items.{when_some, when_none}
 use Rattle.cert_writer.proofs.Classed.{none_of_more, first_there, none_there}
 use Rattle.cert_writer.proofs.covering.first_among.Goals as goal

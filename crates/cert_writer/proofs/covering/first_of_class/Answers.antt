@@ -1,7 +1,7 @@
 use Rattle.std.proofs.Common.{◌++◌, List, ℕ, None, Some, sym, subst}
 use Rattle.clause_form.specs.Seen.{clause_at}
 use Rattle.fact_classes.specs.Classes.{listed}
-use Rattle.clause_saturate.specs.Numbers.{IsAmong, IsAscending}
+use Rattle.log_entries.specs.Numbers.{IsAmong, IsAscending}
 use Rattle.cert_writer.specs.Classed.{IsFirstAmong}
 use Rattle.cert_writer.proofs.Classed.{places_within}
 use Rattle.cert_writer.proofs.covering.first_of_class.Goals as goal

@@ -1,11 +1,11 @@
 use Rattle.std.proofs.Common.{◌≡◌, ◌∙◌, ◌+◌, Some, List, refl, sym, subst}
 use Rattle.std.specs.Prelude.{slice_get, MatchBool}
 use Rattle.pi_tree.specs.Protocols.{protocol_of}
-use Rattle.clause_saturate.specs.declared.log.Entry.{Entry}
+use Rattle.log_entries.specs.declared.log.Entry.{Entry}
 use Rattle.clause_form.specs.Fit.{AreFit}
-use Rattle.clause_saturate.specs.Beating.{clauses_of}
-use Rattle.clause_saturate.proofs.Found.{get_at}
-use Rattle.clause_saturate.proofs.Marking.{fit_at}
+use Rattle.log_entries.specs.Beating.{clauses_of}
+use Rattle.log_entries.proofs.Placing.{get_at}
+use Rattle.log_entries.proofs.Marking.{fit_at}
 use Rattle.cert_writer.specs.Goals.{AddsGoal, IsUnmetEntry}
 use Rattle.cert_writer.proofs.Meeting.{goals_next, first_unmet}
 use Rattle.cert_writer.proofs.satisfying.goal_rows.Goals as goal

@@ -1,7 +1,7 @@
 use Rattle.std.proofs.Common.{List}
 use Rattle.term_tree.specs.Bank.{Grows}
 use Rattle.spec_saturation.specs.Key.{Entry}
-use Rattle.clause_saturate.specs.PlainLogs.{TellPlainLog}
+use Rattle.log_entries.specs.PlainLogs.{TellPlainLog}
 use Rattle.clause_instances.specs.Instances.{AreKnownInstances, ArePendingIn}
 use Rattle.clause_instances.proofs.Stacks.{IsSoFar, IsCounted}
 use Rattle.clause_instances.proofs.expansion.told_of.Given as goal

@@ -1,5 +1,5 @@
-use Rattle.std.proofs.Common.{◌∙◌, ◌++◌, ap, arith}
-use Rattle.spec_attack_runs.specs.Source.{Source, source_variables, part_of}
+use Rattle.std.proofs.Common.{◌∙◌, ◌++◌, arith}
+use Rattle.spec_attack_runs.specs.Source.{source_variables, part_of}
 use Rattle.term_tree.proofs.BankLaws.{Grows-length}
 use Rattle.clause_instances.proofs.Keeping.{before_own}
 use Rattle.clause_instances.proofs.given.variables_of.Goals as goal
@@ -11,4 +11,4 @@ pub returns-in_ok-add_source_variables-in-Some-clause-variables : goal.returns-i
 returns-in_ok-add_source_variables-in-Some-clause-variables c =
     let kept = rw c.in-Some.is at c.in_ok-kept.ensures.kept in
     before_own (part_of c.args.source.now) c.args.source.now c.in-Some.variables.items c.add_source_variables.new.numbers.items kept
-    (c.in_ok-add_source_variables-in-Some.ensures ∙ ap (λ (x : Source). c.in-Some.variables.items ++ source_variables x) c.source.view_is)
+    (c.in_ok-add_source_variables-in-Some.ensures ∙ (λ i. c.in-Some.variables.items ++ source_variables (record { raw = c.raw.ensures i; part = 1; action = c.action.ensures i })))

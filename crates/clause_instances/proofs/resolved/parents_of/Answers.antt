@@ -1,8 +1,8 @@
-use Rattle.std.proofs.Common.{◌∙◌, List, map, ap, sym, subst, refl}
+use Rattle.std.proofs.Common.{◌∙◌, Some, None, List, map, ap, sym, subst, refl}
 use Rattle.spec_terms.specs.Term.{Term}
 use Rattle.term_tree.specs.Bank.{tree_at}
 use Rattle.spec_attack_runs.specs.Instance.{closing, next_after}
-use Rattle.clause_instances.specs.Closing.{IsClosing}
+use Rattle.clause_instances.specs.Closing.{AreClosed}
 use Rattle.clause_instances.specs.Instances.{pending_at}
 use Rattle.clause_instances.proofs.Origins.{normed_at}
 use Rattle.clause_instances.proofs.Descending.{no_solved, no_unsolved, no_descent, too_large, parents}
@@ -33,13 +33,12 @@ returns-in_default-3-clause-parents c = λ log tells at.
     let p = pending_at c.args.bank.now c.args.pending.now in
     let n = c.args.expansion.now.next in
     let entries = c.args.derivation.now.log.now in
+    let found = c.in-Some-2.found in
     let comes = rw c.in-Some-2.is at c.in_ok-found.ensures.descends in
-    let by = closing p.terms n c.in-Some-2.found.variables.items in
-    let seen = c.deref.ensures.value ∙ c.terms.view_is in
-    let made = subst (λ (ts : List Term). IsClosing c.new.new.bank ts n c.in-Some-2.found.variables.items c.in_ok-closing.closing) (ap (map (tree_at c.args.bank.now)) seen) c.in_ok-closing.ensures.closing in
-    let none = c.in_ok-first.ensures.closed by made.closes in
-    let large = rw c.in_default-3.is at none in
-    too_large log entries p n c.args.descends tells at c.in-Some.solved.now c.in-Some-entry.unsolved.now (sym c.in-Some.ensures) (sym c.in-Some-entry.ensures) c.in-Some-2.found comes large
+    let seen = ap (map (tree_at c.args.bank.now)) (c.deref.ensures.value ∙ c.terms.view_is) in
+    let none = rw c.in_default-3.is at c.in_ok-first.ensures.closed in
+    let large = subst (λ (ts : List Term). AreClosed c.closed_parents.new.bank (closing ts n found.variables.items) found.lefts found.rights None) seen none in
+    too_large log entries p n c.args.descends tells at c.in-Some.solved.now c.in-Some-entry.unsolved.now (sym c.in-Some.ensures) (sym c.in-Some-entry.ensures) found comes large
 
 pub returns-clause-known : goal.returns-clause-known
 returns-clause-known c = let both = rw c.in-Some-3.is at c.in_ok-first.ensures.known in (both.0, (both.1, tt))
@@ -49,10 +48,9 @@ returns-clause-parents c = λ log tells at.
     let p = pending_at c.args.bank.now c.args.pending.now in
     let n = c.args.expansion.now.next in
     let entries = c.args.derivation.now.log.now in
+    let found = c.in-Some-2.found in
     let comes = rw c.in-Some-2.is at c.in_ok-found.ensures.descends in
-    let by = closing p.terms n c.in-Some-2.found.variables.items in
-    let seen = c.deref.ensures.value ∙ c.terms.view_is in
-    let made = subst (λ (ts : List Term). IsClosing c.new.new.bank ts n c.in-Some-2.found.variables.items c.in_ok-closing.closing) (ap (map (tree_at c.args.bank.now)) seen) c.in_ok-closing.ensures.closing in
-    let some = c.in_ok-first.ensures.closed by made.closes in
-    let both = rw c.in-Some-3.is at some in
-    parents log entries p n c.args.descends tells at c.in-Some.solved.now c.in-Some-entry.unsolved.now (sym c.in-Some.ensures) (sym c.in-Some-entry.ensures) c.in-Some-2.found comes c.both_closed.new.bank _ _ c.new.new.number refl refl both.0.are both.1.are both.2 (c.in_ok-closing.ensures.next ∙ ap (λ (ts : List Term). next_after ts n c.in-Some-2.found.variables.items) (ap (map (tree_at c.args.bank.now)) seen))
+    let seen = ap (map (tree_at c.args.bank.now)) (c.deref.ensures.value ∙ c.terms.view_is) in
+    let some = rw c.in-Some-3.is at c.in_ok-first.ensures.closed in
+    let both = subst (λ (ts : List Term). AreClosed c.closed_parents.new.bank (closing ts n found.variables.items) found.lefts found.rights (Some (c.in-Some-3.first, c.in-Some-3.second))) seen some in
+    parents log entries p n c.args.descends tells at c.in-Some.solved.now c.in-Some-entry.unsolved.now (sym c.in-Some.ensures) (sym c.in-Some-entry.ensures) found comes c.closed_parents.new.bank _ _ c.closed_parents.new.number refl refl both.0.are both.1.are both.2 (c.in_ok-first.ensures.next ∙ ap (λ (ts : List Term). next_after ts n found.variables.items) seen)

@@ -3,11 +3,11 @@ use Rattle.std.proofs.lemmas.List.{length-map}
 use Rattle.clause_form.specs.Seen.{clause_at}
 use Rattle.clause_resolve.proofs.Answering.{as_before, taken_back}
 use Rattle.term_tree.proofs.BankLaws.{Grows-length}
-use Rattle.clause_saturate.specs.declared.walk.Walk.{Walk}
+use Rattle.log_entries.specs.declared.walk.Walk.{Walk}
 use Rattle.clause_saturate.specs.Common.{Shared, task_of}
-use Rattle.clause_saturate.proofs.Listing.{none_listed}
+use Rattle.log_entries.proofs.Listing.{none_listed}
 use Rattle.clause_saturate.proofs.Commons.{some_goal, some_task, fit_proper}
-use Rattle.clause_saturate.proofs.Stepping.{walk_begins}
+use Rattle.log_walks.proofs.Stepping.{walk_begins}
 use Rattle.clause_saturate.proofs.sharing.begin.Goals as goal
 
 pub walk_to_goal-requires : goal.walk_to_goal-requires

@@ -1,8 +1,8 @@
 use Rattle.std.proofs.Common.{Option, length, refl, subst}
 use Rattle.spec_saturation.specs.Log.{goal_key}
 use Rattle.spec_saturation.specs.Common.{with_goal}
-use Rattle.clause_saturate.specs.declared.walk.Stop.{Stop}
-use Rattle.clause_saturate.specs.Walked.{HasPassed}
+use Rattle.log_walks.specs.declared.stops.Stop.{Stop}
+use Rattle.log_walks.specs.Walked.{HasPassed}
 use Rattle.clause_saturate.specs.Common.{task_of}
 use Rattle.clause_saturate.proofs.Commons.{common_walked}
 use Rattle.clause_saturate.proofs.sharing.begun.Goals as goal

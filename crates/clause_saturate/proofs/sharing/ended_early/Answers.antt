@@ -1,6 +1,6 @@
 use Rattle.std.proofs.Common.{subst}
-use Rattle.clause_saturate.specs.declared.walk.Stop.{Stop}
-use Rattle.clause_saturate.specs.Walked.{HasStopped}
+use Rattle.log_walks.specs.declared.stops.Stop.{Stop}
+use Rattle.log_walks.specs.Walked.{HasStopped}
 use Rattle.clause_saturate.specs.Common.{task_of}
 use Rattle.clause_saturate.proofs.Commons.{spent_common, large_common}
 use Rattle.clause_saturate.proofs.sharing.ended_early.Goals as goal

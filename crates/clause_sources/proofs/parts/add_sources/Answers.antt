@@ -16,7 +16,9 @@ each-preserved g c =
     let action = action_of c.args.action.now in
     let raw = numbered_in_bound c.args.raw.now in
     let told = c.deref-part-items.result.now in
-    let made = c.in_ok-source.ensures ∙ ap (λ order. source_under (placed order) (record { raw = raw; part = get_or told c.each.part-index 0; action = action })) c.in_ok-order.ensures in
+    let part = get_or told c.each.part-index 0 in
+    let shared = c.in_ok-source.ensures ∙ (λ i. record { raw = c.in_ok-shared.ensures.raw i; part = part; action = c.in_ok-shared.ensures.action i }) in
+    let made = shared ∙ ap (λ order. source_under (placed order) (record { raw = raw; part = part; action = action })) c.in_ok-order.ensures in
     one_source action raw c.args.sources.now c.each.sources c.push.new.self told c.each.part-index c.in_ok-source.source c.each-test.true c.each.invariant made c.in_ok-push.ensures
 
 pub returns-clause-tells : goal.returns-clause-tells

@@ -9,6 +9,6 @@ use Rattle.clause_sources.proofs.trees.numbered_facts.Goals as goal
 pub returns : goal.returns
 returns c =
     let items = c.deref-fact-items.result.now in
-    let s = by_numbers c.args.numbers in
+    let s = by_numbers c.args.numbers.now in
     c.each.invariant ∙ (ap (map (λ f. fact_under s (plain_fact_of f))) (take_all c.each.fact-index items c.each-test.false)
     ∙ (sym (map-map (fact_under s) plain_fact_of items) ∙ ap (map (fact_under s)) (ap (map plain_fact_of) c.deref-fact-items.ensures.value ∙ c.facts.view_is)))

@@ -2,8 +2,8 @@ use Rattle.std.proofs.Common.{◌≡◌, map, length, OnOk, sym, subst}
 use Rattle.term_tree.specs.Bank.{symbol_of}
 use Rattle.term_store.specs.SharedBank.{AddsNew}
 use Rattle.spec_node_tables.specs.Nodes.{term_of}
-use Rattle.node_reader.specs.Seen.{id_of, node_of, HasNodesBefore}
-use Rattle.node_reader.specs.declared.nodes.TableNode.{TableNode}
+use Rattle.node_lines.specs.Seen.{id_of, node_of, HasNodesBefore}
+use Rattle.node_lines.specs.declared.nodes.TableNode.{TableNode}
 use Rattle.node_reader.proofs.Terms.{adds_ok}
 use Rattle.node_reader.proofs.table.put.Goals as goal
 

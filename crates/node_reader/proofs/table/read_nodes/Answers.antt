@@ -1,5 +1,5 @@
 use Rattle.std.proofs.Common.{◌∙◌, rules}
-use Rattle.node_reader.proofs.Loops.{lines_on, lines_fault, lines_end, lines_over}
+use Rattle.node_lines.proofs.Loops.{lines_on, lines_fault, lines_end, lines_over}
 use Rattle.node_reader.proofs.table.read_nodes.Goals as goal
 
 pub returns-then-front-ne110-clause-read : goal.returns-then-front-ne110-clause-read

@@ -5,7 +5,7 @@ use Rattle.spec_node_reading.specs.Loops.{lines_through}
 use Rattle.fact_reader.specs.Reads.{left_of}
 use Rattle.spec_node_counts.specs.Nodes.{no_nodes, node_line}
 use Rattle.node_reader.specs.Tables.{table_of}
-use Rattle.node_reader.proofs.Loops.{AreThrough}
+use Rattle.node_lines.proofs.Loops.{AreThrough}
 use Rattle.node_reader.proofs.table.read_nodes.Given as goal
 
 abbrev pub invariant-loop-round : goal.invariant-loop-round

@@ -60,5 +60,5 @@ returns-in_ok-thread-in-Input-clause-possible c =
 pub overflow_add-result : goal.overflow_add-result
 overflow_add-result c = grind (arith, common_steps, of_meeting, of_points)
 
-pub received-requires : goal.received-requires
-received-requires c = grind (arith, common_steps, of_meeting, of_points)
+pub received_shared-requires : goal.received_shared-requires
+received_shared-requires c = grind (arith, common_steps, of_meeting, of_points)

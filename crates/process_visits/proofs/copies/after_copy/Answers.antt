@@ -1,8 +1,8 @@
 use Rattle.std.proofs.Common.{◌≡◌, ◌++◌, ◌∷◌, [], ◌+◌, refl, sym, subst, arith}
 use Rattle.spec_translation.specs.Visit.{after_copy}
-use Rattle.process_visits.specs.declared.visit.Visit.{Visit}
-use Rattle.process_visits.specs.Visits.{visit_at, NamesVisit}
-use Rattle.process_visits.proofs.Named.{if_ok, copied}
+use Rattle.unified_visits.specs.declared.visit.Visit.{Visit}
+use Rattle.unified_visits.specs.Visits.{visit_at, NamesVisit}
+use Rattle.unified_visits.proofs.Named.{if_ok, copied}
 use Rattle.process_visits.proofs.copies.after_copy.Goals as goal
 
 pub returns-clause-names : goal.returns-clause-names

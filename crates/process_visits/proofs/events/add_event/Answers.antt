@@ -13,15 +13,16 @@ use Rattle.spec_translation.specs.Visit.{event_terms, after_event}
 use Rattle.spec_clauses.specs.Fact.{Ev}
 use Rattle.clause_form.specs.Seen.{clause_at}
 use Rattle.clause_form.proofs.Copying.{NameTerms-grows}
-use Rattle.process_visits.specs.declared.visit.Visit.{Visit}
+use Rattle.unified_visits.specs.declared.visit.Visit.{Visit}
 use Rattle.process_visits.specs.Forms.{Adds, raw_event, below_event, event_raw, IsSmallVisit, EventAdds}
-use Rattle.process_visits.specs.Places.{protocol_at}
+use Rattle.unified_visits.specs.Places.{protocol_at}
 use Rattle.process_visits.specs.Telling.{TellsVisit}
-use Rattle.process_visits.specs.Visits.{visit_at}
-use Rattle.process_visits.proofs.Named.{if_ok, visit_later, below_parts}
+use Rattle.unified_visits.specs.Visits.{visit_at}
+use Rattle.unified_visits.proofs.Named.{if_ok, visit_later, below_parts}
 use Rattle.process_visits.proofs.Adding.{same_large_raw}
-use Rattle.process_visits.proofs.Below.{terms_in_below}
-use Rattle.process_visits.proofs.Happening.{event_named, event_first, event_second, event_last, if_true, if_false}
+use Rattle.unified_visits.proofs.Below.{terms_in_below}
+use Rattle.visit_choices.proofs.Branches.{if_true, if_false}
+use Rattle.process_visits.proofs.Happening.{event_named, event_first, event_second, event_last}
 use Rattle.process_visits.proofs.Telling.{told_as, all_found}
 use Rattle.process_visits.proofs.events.add_event.Goals as goal
 

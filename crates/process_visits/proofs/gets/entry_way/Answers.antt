@@ -1,17 +1,17 @@
 use Rattle.std.proofs.Common.{false, Option, ap, subst}
 use Rattle.spec_translation.specs.Visit.{Visit}
 use Rattle.spec_translation.specs.Choice.{GoesOn}
-use Rattle.process_visits.specs.declared.ways.Way.{Way}
+use Rattle.visit_choices.specs.declared.ways.Way.{Way}
 use Rattle.process_visits.specs.Entries.{met_choice, IsEntryWay, EntryGoes}
-use Rattle.process_visits.proofs.Named.{if_ok}
+use Rattle.unified_visits.proofs.Named.{if_ok}
 use Rattle.pi_tree.specs.Processes.{condition_of}
 use Rattle.pi_tree.specs.Terms.{term_of}
 use Rattle.spec_calculus.specs.Tables.{sides}
 use Rattle.std.specs.List.{AllByRecursion}
 use Rattle.clause_terms.specs.Conditions.{HasShortTuples}
 use Rattle.term_tree.proofs.BankLaws.{Grows_trans}
-use Rattle.process_visits.specs.Places.{protocol_at}
-use Rattle.process_visits.specs.Visits.{visit_at}
+use Rattle.unified_visits.specs.Places.{protocol_at}
+use Rattle.unified_visits.specs.Visits.{visit_at}
 use Rattle.process_visits.proofs.Entering.{entry_large, entry_alone, entry_met}
 use Rattle.process_visits.proofs.gets.entry_way.Goals as goal
 

@@ -8,12 +8,12 @@ use Rattle.term_tree.proofs.BankLaws.{Grows_trans, Names-grows}
 use Rattle.unify_match.specs.Seen.{seen}
 use Rattle.unify_match.specs.Outcome.{Unified, NoUnifier}
 use Rattle.clause_terms.specs.Scopes.{scope_at}
-use Rattle.process_visits.specs.Places.{protocol_at}
-use Rattle.process_visits.specs.Visits.{visit_at}
-use Rattle.process_visits.proofs.Scopes.{IsScopeIn-grows, scope_at-grows}
-use Rattle.process_visits.proofs.Named.{visit_later}
-use Rattle.process_visits.proofs.Happening.{if_true, if_false}
-use Rattle.process_visits.proofs.Choosing.{made_known}
+use Rattle.unified_visits.specs.Places.{protocol_at}
+use Rattle.unified_visits.specs.Visits.{visit_at}
+use Rattle.unified_visits.proofs.Scopes.{IsScopeIn-grows, scope_at-grows}
+use Rattle.unified_visits.proofs.Named.{visit_later}
+use Rattle.visit_choices.proofs.Branches.{if_true, if_false}
+use Rattle.visit_choices.proofs.Choosing.{made_known}
 use Rattle.process_visits.proofs.Entering.{entry_way_is, met_nowhere, met_below, met_there}
 use Rattle.process_visits.proofs.gets.met_way.Goals as goal
 

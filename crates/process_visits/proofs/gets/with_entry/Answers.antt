@@ -1,10 +1,10 @@
 use Rattle.std.proofs.Common.{◌≡◌, ◌++◌, [], ◌∷◌}
 use Rattle.term_tree.proofs.BankLaws.{Grows_refl, Grows_trans}
-use Rattle.process_visits.specs.Places.{protocol_at}
+use Rattle.unified_visits.specs.Places.{protocol_at}
 use Rattle.process_visits.specs.Entries.{WithEntry}
-use Rattle.process_visits.specs.declared.visit.Visit.{Visit}
-use Rattle.process_visits.specs.Visits.{visit_at}
-use Rattle.process_visits.proofs.Named.{if_ok}
+use Rattle.unified_visits.specs.declared.visit.Visit.{Visit}
+use Rattle.unified_visits.specs.Visits.{visit_at}
+use Rattle.unified_visits.proofs.Named.{if_ok}
 use Rattle.process_visits.proofs.Entering.{row_room, entered}
 use Rattle.spec_clauses.specs.Fact.{Tab}
 use Rattle.process_visits.proofs.gets.with_entry.Goals as goal

@@ -1,8 +1,8 @@
 use Rattle.std.proofs.Common.{sym, ◌∙◌}
 use Rattle.pi_tree.specs.Terms.{term_of}
 use Rattle.pi_tree.specs.Patterns.{pattern_of}
-use Rattle.process_visits.specs.Places.{protocol_at}
-use Rattle.process_visits.specs.Visits.{visit_at}
+use Rattle.unified_visits.specs.Places.{protocol_at}
+use Rattle.unified_visits.specs.Visits.{visit_at}
 use Rattle.process_visits.proofs.Receiving.{channel_large, compared_large, visit_large, visit_small}
 use Rattle.term_tree.proofs.BankLaws.{Grows_refl}
 use Rattle.process_visits.proofs.inputs.after_input.Goals as goal

@@ -4,10 +4,10 @@ use Rattle.pi_tree.specs.Patterns.{pattern_of}
 use Rattle.spec_translation.specs.Conversion.{Fresh}
 use Rattle.spec_translation.specs.Visit.{IsFresh, after_input}
 use Rattle.clause_form.specs.Facts.{fact_of}
-use Rattle.process_visits.specs.declared.visit.Visit.{Visit}
-use Rattle.process_visits.specs.Places.{protocol_at}
-use Rattle.process_visits.specs.Visits.{visit_at, NamesVisit}
-use Rattle.process_visits.proofs.Named.{if_ok, visit_later}
+use Rattle.unified_visits.specs.declared.visit.Visit.{Visit}
+use Rattle.unified_visits.specs.Places.{protocol_at}
+use Rattle.unified_visits.specs.Visits.{visit_at, NamesVisit}
+use Rattle.unified_visits.proofs.Named.{if_ok, visit_later}
 use Rattle.process_visits.proofs.Receiving.{received_named}
 use Rattle.term_tree.proofs.BankLaws.{Grows_trans}
 use Rattle.std.proofs.lemmas.Grind.{common_steps}

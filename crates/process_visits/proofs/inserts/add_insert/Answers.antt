@@ -1,11 +1,11 @@
 use Rattle.std.proofs.Common.{sym, ◌∙◌}
 use Rattle.spec_clauses.specs.Fact.{Tab}
 use Rattle.spec_translation.specs.Visit.{written_terms}
-use Rattle.process_visits.specs.Places.{protocol_at}
+use Rattle.unified_visits.specs.Places.{protocol_at}
 use Rattle.process_visits.specs.Forms.{insert_raw, are_large_in}
-use Rattle.process_visits.specs.Visits.{visit_at}
+use Rattle.unified_visits.specs.Visits.{visit_at}
 use Rattle.process_visits.proofs.Adding.{is_added, is_told}
-use Rattle.process_visits.proofs.Named.{visit_later}
+use Rattle.unified_visits.proofs.Named.{visit_later}
 use Rattle.process_visits.proofs.Telling.{told_visit}
 use Rattle.term_tree.proofs.BankLaws.{Grows_trans, Grows_refl}
 use Rattle.process_visits.proofs.inserts.add_insert.Goals as goal

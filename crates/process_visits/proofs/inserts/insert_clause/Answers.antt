@@ -2,9 +2,9 @@ use Rattle.std.proofs.Common.{sym, subst}
 use Rattle.spec_clauses.specs.Fact.{Tab}
 use Rattle.spec_translation.specs.Visit.{written_terms}
 use Rattle.clause_form.specs.Seen.{NameFacts}
-use Rattle.process_visits.specs.Places.{protocol_at}
-use Rattle.process_visits.specs.Visits.{visit_at, ShowDiffs}
-use Rattle.process_visits.proofs.Named.{hypotheses_later, diffs_later}
+use Rattle.unified_visits.specs.Places.{protocol_at}
+use Rattle.unified_visits.specs.Visits.{visit_at, ShowDiffs}
+use Rattle.unified_visits.proofs.Named.{hypotheses_later, diffs_later}
 use Rattle.process_visits.proofs.Adding.{raw_named}
 use Rattle.term_tree.proofs.BankLaws.{Grows_refl}
 use Rattle.process_visits.proofs.inserts.insert_clause.Goals as goal

@@ -3,10 +3,10 @@ use Rattle.spec_calculus.specs.Choices.{label_of}
 use Rattle.spec_calculus.specs.Syntax.{Expression}
 use Rattle.spec_choice_walks.specs.Instructions.{instructions}
 use Rattle.process_visits.specs.Labels.{AreRulesAt, IsLabelAt}
-use Rattle.process_visits.specs.Places.{protocol_at}
-use Rattle.process_visits.specs.Walks.{instructions_of}
+use Rattle.unified_visits.specs.Places.{protocol_at}
+use Rattle.visit_choices.specs.Walks.{instructions_of}
 use Rattle.process_visits.proofs.Labelling.{label_told}
-use Rattle.process_visits.proofs.Named.{if_ok}
+use Rattle.unified_visits.proofs.Named.{if_ok}
 use Rattle.process_visits.proofs.labels.label_at.Goals as goal
 
 pub returns : goal.returns

@@ -1,9 +1,9 @@
 use Rattle.std.proofs.Common.{Vec, Global, ◌∙◌, ◌+◌, ◌/◌, ◌%◌, ℕ, length, map, drop, ap, sym, arith}
 use Rattle.spec_calculus.specs.Matching.{rules_of}
 use Rattle.term_values.specs.Instructions.{instruction_of}
-use Rattle.process_visits.specs.Places.{protocol_at}
-use Rattle.process_visits.specs.Walks.{instructions_of}
-use Rattle.process_visits.proofs.Walking.{rules_counted}
+use Rattle.unified_visits.specs.Places.{protocol_at}
+use Rattle.visit_choices.specs.Walks.{instructions_of}
+use Rattle.visit_choices.proofs.Walking.{rules_counted}
 use Rattle.process_visits.proofs.Labelling.{none_taken, taken_same, call_split, call_taken, other_taken, end_taken}
 use Rattle.process_visits.proofs.labels.rules_at.Goals.{in-None, in-Some+in_ok-push-in-Some}
 use Rattle.process_visits.proofs.labels.rules_at.Goals as goal

@@ -1,7 +1,7 @@
 use Rattle.std.proofs.Common.{map, drop}
 use Rattle.term_values.specs.Instructions.{instruction_of}
-use Rattle.process_visits.specs.Places.{protocol_at}
-use Rattle.process_visits.specs.Walks.{instructions_of}
+use Rattle.unified_visits.specs.Places.{protocol_at}
+use Rattle.visit_choices.specs.Walks.{instructions_of}
 use Rattle.process_visits.proofs.Labelling.{IsTaken}
 use Rattle.process_visits.proofs.labels.rules_at.Given as goal
 

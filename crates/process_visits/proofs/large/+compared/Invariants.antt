@@ -3,7 +3,7 @@ use Rattle.spec_trees.specs.Tree.{trees}
 use Rattle.spec_calculus.specs.Limits.{compared_row}
 use Rattle.pi_tree.specs.Patterns.{pattern_of}
 use Rattle.clause_terms.specs.Scopes.{scope_at}
-use Rattle.process_visits.specs.Places.{protocol_at}
+use Rattle.unified_visits.specs.Places.{protocol_at}
 use Rattle.process_visits.specs.Forms.{are_large_in}
 use Rattle.process_visits.proofs.large.+compared.Given as goal
 

@@ -1,7 +1,7 @@
 use Rattle.std.proofs.Common.{◌≡◌, map, drop}
 use Rattle.pi_tree.specs.Terms.{term_of}
 use Rattle.clause_terms.specs.Scopes.{scope_at}
-use Rattle.process_visits.specs.Places.{protocol_at}
+use Rattle.unified_visits.specs.Places.{protocol_at}
 use Rattle.process_visits.specs.Forms.{are_large_in}
 use Rattle.process_visits.proofs.large.some_large_term.Given as goal
 

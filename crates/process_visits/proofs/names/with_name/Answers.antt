@@ -3,9 +3,9 @@ use Rattle.spec_calculus.specs.Syntax.{Made}
 use Rattle.term_tree.specs.Bank.{tree_at, Names}
 use Rattle.spec_translation.specs.Conversion.{name_term}
 use Rattle.spec_translation.specs.Visit.{after_new}
-use Rattle.process_visits.specs.declared.visit.Visit.{Visit}
-use Rattle.process_visits.specs.Visits.{visit_at, NamesVisit}
-use Rattle.process_visits.proofs.Named.{if_ok, restricted}
+use Rattle.unified_visits.specs.declared.visit.Visit.{Visit}
+use Rattle.unified_visits.specs.Visits.{visit_at, NamesVisit}
+use Rattle.unified_visits.proofs.Named.{if_ok, restricted}
 use Rattle.process_visits.proofs.names.with_name.Goals as goal
 
 pub returns-clause-names : goal.returns-clause-names

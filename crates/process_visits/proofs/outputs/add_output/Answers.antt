@@ -2,11 +2,11 @@ use Rattle.std.proofs.Common.{[], ◌∷◌, sym, ◌∙◌}
 use Rattle.pi_tree.specs.Terms.{term_of}
 use Rattle.spec_translation.specs.Conversion.{term_in}
 use Rattle.spec_translation.specs.Visit.{is_large_term, sent}
-use Rattle.process_visits.specs.Places.{protocol_at}
+use Rattle.unified_visits.specs.Places.{protocol_at}
 use Rattle.process_visits.specs.Forms.{output_raw, are_large_in}
-use Rattle.process_visits.specs.Visits.{visit_at}
+use Rattle.unified_visits.specs.Visits.{visit_at}
 use Rattle.process_visits.proofs.Adding.{is_added, is_told, both_small}
-use Rattle.process_visits.proofs.Named.{visit_later}
+use Rattle.unified_visits.proofs.Named.{visit_later}
 use Rattle.process_visits.proofs.Telling.{told_visit}
 use Rattle.term_tree.proofs.BankLaws.{Grows_trans, Grows_refl}
 use Rattle.process_visits.proofs.outputs.add_output.Goals as goal

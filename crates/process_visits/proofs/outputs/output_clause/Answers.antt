@@ -4,9 +4,9 @@ use Rattle.spec_translation.specs.Conversion.{term_in}
 use Rattle.spec_translation.specs.Visit.{sent}
 use Rattle.clause_form.specs.Facts.{fact_of}
 use Rattle.clause_form.specs.Seen.{NameFacts}
-use Rattle.process_visits.specs.Places.{protocol_at}
-use Rattle.process_visits.specs.Visits.{visit_at, ShowDiffs}
-use Rattle.process_visits.proofs.Named.{hypotheses_later, diffs_later}
+use Rattle.unified_visits.specs.Places.{protocol_at}
+use Rattle.unified_visits.specs.Visits.{visit_at, ShowDiffs}
+use Rattle.unified_visits.proofs.Named.{hypotheses_later, diffs_later}
 use Rattle.process_visits.proofs.Adding.{raw_named}
 use Rattle.term_tree.proofs.BankLaws.{Grows_refl}
 use Rattle.process_visits.proofs.outputs.output_clause.Goals as goal

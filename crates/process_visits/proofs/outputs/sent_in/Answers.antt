@@ -6,8 +6,8 @@ use Rattle.spec_translation.specs.Visit.{sent}
 use Rattle.clause_form.specs.Facts.{fact_of}
 use Rattle.clause_form.specs.Seen.{NamesFact}
 use Rattle.clause_terms.specs.Scopes.{scope_at}
-use Rattle.process_visits.specs.Places.{protocol_at}
-use Rattle.process_visits.proofs.Scopes.{IsScopeIn-grows, scope_at-grows}
+use Rattle.unified_visits.specs.Places.{protocol_at}
+use Rattle.unified_visits.proofs.Scopes.{IsScopeIn-grows, scope_at-grows}
 use Rattle.std.proofs.lemmas.Grind.{common_steps}
 use Rattle.process_visits.proofs.outputs.sent_in.Goals as goal
 

@@ -1,9 +1,9 @@
 use Rattle.std.proofs.Common.{◌≡◌, List}
 use Rattle.spec_terms.specs.Term.{Term}
 use Rattle.spec_translation.specs.Visit as translation
-use Rattle.process_visits.specs.declared.visit.Visit.{Visit}
-use Rattle.process_visits.specs.Visits.{visit_at, IsVisitIn, NamesVisit}
-use Rattle.process_visits.proofs.Named.{if_ok, phased}
+use Rattle.unified_visits.specs.declared.visit.Visit.{Visit}
+use Rattle.unified_visits.specs.Visits.{visit_at, IsVisitIn, NamesVisit}
+use Rattle.unified_visits.proofs.Named.{if_ok, phased}
 use Rattle.process_visits.proofs.phases.after_phase.Goals as goal
 
 pub returns : goal.returns

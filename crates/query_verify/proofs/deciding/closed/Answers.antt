@@ -1,7 +1,7 @@
 use Rattle.std.proofs.Common.{◌∙◌, map, ap, arith}
 use Rattle.std.proofs.lemmas.Result.{IfOk-weaker}
 use Rattle.clause_form.specs.Seen.{clause_at}
-use Rattle.clause_saturate.specs.Plain.{plain_entry}
+use Rattle.log_entries.specs.Plain.{plain_entry}
 use Rattle.query_verify.specs.Asked.{protocol_at, Answers, TellsUnmet}
 use Rattle.query_verify.proofs.Telling.{plain_tells, tell_length}
 use Rattle.query_verify.proofs.Answering.{proved_answer, unmet_answer}

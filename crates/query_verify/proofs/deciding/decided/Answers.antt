@@ -2,7 +2,7 @@ use Rattle.std.proofs.Common.{List, sym, subst}
 use Rattle.spec_terms.specs.Term.{Term}
 use Rattle.spec_clauses.specs.Fact.{Clause}
 use Rattle.clause_form.proofs.Fit.{named_fit}
-use Rattle.clause_saturate.specs.Logs.{IsLogOf}
+use Rattle.log_entries.specs.Logs.{IsLogOf}
 use Rattle.query_verify.specs.Asked.{protocol_at}
 use Rattle.query_verify.proofs.Fitting.{small_query, named_some, same_later, translates_later}
 use Rattle.query_verify.proofs.deciding.decided.Goals as goal

@@ -1,7 +1,7 @@
 use Rattle.std.proofs.Common.{map, subst}
 use Rattle.clause_form.specs.Seen.{clause_at}
-use Rattle.clause_saturate.specs.declared.log.Saturated.{Saturated}
-use Rattle.clause_saturate.specs.Logs.{IsLogOf}
+use Rattle.log_entries.specs.declared.log.Saturated.{Saturated}
+use Rattle.log_entries.specs.Logs.{IsLogOf}
 use Rattle.query_verify.specs.Asked.{protocol_at}
 use Rattle.query_verify.proofs.Answering.{spent_answer, pair_answer}
 use Rattle.query_verify.proofs.deciding.ended.Goals as goal

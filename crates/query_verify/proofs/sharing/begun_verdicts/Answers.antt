@@ -2,8 +2,8 @@ use Rattle.std.proofs.Common.{List, map, sym, subst}
 use Rattle.pi_tree.specs.Protocols.{protocol_of}
 use Rattle.clause_form.specs.Seen.{clause_at, AreClausesIn, IdClause}
 use Rattle.clause_saturate.specs.declared.common.Begun.{Begun}
-use Rattle.clause_saturate.specs.declared.log.Entry.{Entry}
-use Rattle.clause_saturate.specs.Beating.{clauses_of}
+use Rattle.log_entries.specs.declared.log.Entry.{Entry}
+use Rattle.log_entries.specs.Beating.{clauses_of}
 use Rattle.clause_saturate.specs.Common.{IsBegun, IsFreshCommon}
 use Rattle.query_verify.specs.Settled.{shared_by, shared_of}
 use Rattle.query_verify.proofs.Commons.{common_later, common_fit, named_common, fresh_known}

@@ -3,7 +3,7 @@ use Rattle.spec_saturation.specs.Common.{with_goal}
 use Rattle.clause_form.specs.Seen.{clause_at, IdClause}
 use Rattle.clause_form.specs.Fit.{IsFit}
 use Rattle.clause_form.proofs.Fit.{clause_fit_at, named_fit}
-use Rattle.clause_saturate.specs.Logs.{IsLogOf}
+use Rattle.log_entries.specs.Logs.{IsLogOf}
 use Rattle.clause_saturate.specs.Common.{saturated, log_of}
 use Rattle.query_verify.specs.Asked.{protocol_at}
 use Rattle.query_verify.proofs.Commons.{goal_some, finished_log, kept_back}

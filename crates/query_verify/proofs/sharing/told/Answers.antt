@@ -1,8 +1,8 @@
 use Rattle.std.proofs.Common.{◌∙◌, map, ap, subst}
 use Rattle.clause_form.specs.Seen.{clause_at}
 use Rattle.clause_saturate.specs.declared.common.End.{End}
-use Rattle.clause_saturate.specs.Logs.{IsLogOf}
-use Rattle.clause_saturate.specs.Plain.{plain_entry}
+use Rattle.log_entries.specs.Logs.{IsLogOf}
+use Rattle.log_entries.specs.Plain.{plain_entry}
 use Rattle.clause_saturate.specs.Common.{saturated, log_of}
 use Rattle.query_verify.specs.Asked.{protocol_at}
 use Rattle.query_verify.proofs.Answering.{spent_answer, pair_answer}

@@ -1,7 +1,7 @@
 use Rattle.std.proofs.Common.{Bool, List, [], ◌∷◌, ◌++◌, length, sym, ap, ◌∙◌, arith}
 use Rattle.spec_node_tables.specs.Text.{node_numbers}
 use Rattle.spec_node_counts.specs.Nodes.{is_bound_node}
-use Rattle.node_reader.specs.Seen.{node_of}
+use Rattle.node_lines.specs.Seen.{node_of}
 use Rattle.node_reader.specs.Tables.{table_of}
 use Rattle.node_reader.proofs.Terms.{added_again, added_large, added_new, starts_on}
 use Rattle.node_reader.proofs.table.Table.add.Goals as goal

@@ -1,4 +1,4 @@
-use Rattle.process_visits.proofs.Named.{visit_later}
+use Rattle.unified_visits.proofs.Named.{visit_later}
 use Rattle.process_visits.proofs.Telling.{raw_later, told_before}
 use Rattle.process_visits.proofs.listing.Listing.add_raw.Goals as goal
 

@@ -1,5 +1,0 @@
-use Rattle.cert_checker.proofs.Passing.{PassedWith}
-use Rattle.cert_checker.proofs.closing.close_solved.Given as goal
-
-abbrev pub invariant-each : goal.invariant-each
-invariant-each g l = PassedWith (g.B.Bank.trees l.fn.bank) l.checker.clauses.now l.checker.rows.now l.from l.solved l.partners.unsolved.now (g.B.Bank.trees l.bank) l.one-index l.next

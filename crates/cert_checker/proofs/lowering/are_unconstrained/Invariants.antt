@@ -1,6 +1,0 @@
-use Rattle.std.proofs.Common.{take}
-use Rattle.cert_checker.specs.Lowering.{AreUnconstrained}
-use Rattle.cert_checker.proofs.lowering.are_unconstrained.Given as goal
-
-abbrev pub invariant-each : goal.invariant-each
-invariant-each l = AreUnconstrained (take l.clause-index l.clauses)

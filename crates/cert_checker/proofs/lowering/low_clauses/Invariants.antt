@@ -1,5 +1,0 @@
-use Rattle.cert_checker.proofs.Lowered.{AreLowered}
-use Rattle.cert_checker.proofs.lowering.low_clauses.Given as goal
-
-abbrev pub invariant-each : goal.invariant-each
-invariant-each g l = AreLowered (g.B.Bank.trees l.fn.bank) (g.B.Bank.trees l.bank) l.items.items l.clauses l.clause-index

@@ -1,5 +1,0 @@
-use Rattle.cert_checker.proofs.Looking.{AreCopied}
-use Rattle.cert_checker.proofs.shaping.copied.Given as goal
-
-abbrev pub invariant-each : goal.invariant-each
-invariant-each g l = AreCopied (g.B.Bank.trees l.fn.bank) (g.B.Bank.trees l.bank) l.items.items l.clauses l.k

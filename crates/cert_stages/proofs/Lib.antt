@@ -1,0 +1,10 @@
+pub mod Walking
+pub mod GoalArguments
+pub mod Nexts
+pub mod Fitting
+pub mod Pairing
+pub mod CoverRows
+pub mod Looking
+pub mod Lowered
+pub mod UnsolvedOnes
+pub mod Passing

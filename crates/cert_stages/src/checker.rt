@@ -1,0 +1,17 @@
+//! A certificate under check.
+
+use cert_form::Rows;
+use clause_form::Clause;
+use pi_tree::Protocol;
+use std::alloc::Global;
+
+/// A certificate under check: of which query of which protocol, its rows, and its clauses over a bank, in their order.
+#[derive(Drop)]
+pub struct Checker<'a> {
+    pub alloc: Global,
+    pub protocol: &'a Protocol,
+    pub query: u32,
+    pub rows: &'a Rows,
+    pub goals: &'a Rows,
+    pub clauses: &'a [Clause],
+}

@@ -1,4 +1,0 @@
-use Rattle.clause_saturate.proofs.pairs.resolve.Given as goal
-
-abbrev pub ghost-keep : goal.ghost-keep
-ghost-keep g a = g.task

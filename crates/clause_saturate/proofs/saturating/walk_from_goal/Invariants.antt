@@ -1,9 +1,0 @@
-use Rattle.std.proofs.Common.{true}
-use Rattle.clause_saturate.specs.Walked.{with_asked}
-use Rattle.clause_saturate.proofs.saturating.walk_from_goal.Given as goal
-
-abbrev pub ghost-offer_goal : goal.ghost-offer_goal
-ghost-offer_goal g a = g.task
-
-abbrev pub ghost-walk_on : goal.ghost-walk_on
-ghost-walk_on g a = with_asked g.task true

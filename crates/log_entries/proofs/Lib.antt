@@ -1,0 +1,11 @@
+pub mod Marking
+pub mod Telling
+pub mod Numbers
+pub mod Placing
+pub mod Classing
+pub mod Beside
+pub mod Lanes
+pub mod EndTerms
+pub mod Chaining
+pub mod Listing
+pub mod Living

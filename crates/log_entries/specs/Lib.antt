@@ -1,0 +1,9 @@
+pub mod Codes
+pub mod Logs
+pub mod Beating
+pub mod Ends
+pub mod Numbers
+pub mod Classes
+pub mod Live
+pub mod Plain
+pub mod PlainLogs

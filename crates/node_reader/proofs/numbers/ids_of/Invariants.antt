@@ -1,6 +1,0 @@
--- the ids of the numbers so far
-use Rattle.node_reader.proofs.Terms.{AreIds}
-use Rattle.node_reader.proofs.numbers.ids_of.Given as goal
-
-abbrev pub invariant-loop-number : goal.invariant-loop-number
-invariant-loop-number l = AreIds l.numbers l.number-index l.items.items

@@ -1,0 +1,13 @@
+pub mod Lists
+pub mod Under
+pub mod Facts
+pub mod Scopes
+pub mod Named
+pub mod Standing
+pub mod Building
+pub mod Parts
+pub mod Lifting
+pub mod Blocks
+pub mod Rows
+pub mod Below
+pub mod Bound

@@ -1,0 +1,8 @@
+use Rattle.spec_terms.specs.Binding.{resolved}
+use Rattle.unify_match.specs.Seen.{seen}
+use Rattle.clause_form.proofs.Renumber.{AreRenumbered}
+use Rattle.unified_visits.specs.Built.{AreBuilt}
+use Rattle.unified_visits.proofs.substituted.facts_under.Given as goal
+
+abbrev pub invariant-each : goal.invariant-each
+invariant-each g l = AreRenumbered (g.B.Bank.trees l.fn.bank) (g.B.Bank.trees l.bank) (resolved (seen (g.B.Bank.trees l.fn.bank) l.binds.pairs)) l.facts l.fact-index l.items.items × AreBuilt (g.B.Bank.trees l.bank) l.binds.pairs l.built

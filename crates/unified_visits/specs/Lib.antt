@@ -1,0 +1,12 @@
+pub mod Room
+pub mod Short
+pub mod ShortProps
+pub mod Places
+pub mod Sizes
+pub mod Built
+pub mod Visits
+pub mod Lifting
+pub mod Solving
+pub mod Numbers
+pub mod Spans
+pub mod Patterns

@@ -1,0 +1,10 @@
+pub mod Tests
+pub mod Branches
+pub mod Joined
+pub mod ButForDiffs
+pub mod Solving
+pub mod Choosing
+pub mod RuledRows
+pub mod Counting
+pub mod Walking
+pub mod Passing

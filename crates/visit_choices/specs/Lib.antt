@@ -1,0 +1,3 @@
+pub mod RuledRows
+pub mod Ways
+pub mod Walks
