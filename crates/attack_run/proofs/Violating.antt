@@ -23,7 +23,7 @@ use Rattle.spec_attack_runs.proofs.OneDescent.{one_origin}
 use Rattle.spec_attack_runs.proofs.OneList.{one_list}
 use Rattle.clause_instances.specs.declared.instance.Instance.{Instance as MadeInstance}
 use Rattle.clause_instances.specs.Derivations.{ComesFromFew, TellsInstances, AreInstancesOf}
-use Rattle.attack_run.specs.Compiled.{CompilesTo}
+use Rattle.attack_compiling.specs.Compiled.{CompilesTo}
 use Rattle.attack_run.specs.Told.{AreCompiled}
 
 not_refused : (o : Option Refusal) → is_none o ≡ true → o ≡ None

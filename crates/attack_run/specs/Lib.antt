@@ -1,4 +1,1 @@
-pub mod Standing
-pub mod Walks
-pub mod Compiled
 pub mod Told

@@ -2,10 +2,6 @@
 //! attacks from derivations: Allamigeon and Blanchet 2005).
 #![tactic(auto)]
 
-mod acting;
-mod compiling;
 mod reconstructing;
-mod standing;
-mod walking;
 
 pub use crate::reconstructing::reconstruct;

@@ -15,10 +15,10 @@ ghost use Rattle.pi_model.specs.Steps.{step_of};
 ghost use Rattle.clause_translate.specs.Whole.{IsLargeAt};
 ghost use Rattle.log_entries.specs.PlainLogs.{TellPlainLog};
 ghost use Rattle.clause_instances.specs.Derivations.{HasNormedLog};
-ghost use Rattle.attack_run.specs.Compiled.{AreFew};
+ghost use Rattle.attack_compiling.specs.Compiled.{AreFew};
 ghost use Rattle.attack_run.specs.Told.{IsTold, AreCompiled};
 
-use crate::compiling::{Compilation, compiled};
+use attack_compiling::{Compilation, compiled};
 use clause_instances::{Derivation, instances_of};
 use clause_translate::sources;
 use log_entries::PlainLog;

@@ -1,0 +1,12 @@
+pub mod WalksOn
+pub mod InPhases
+pub mod SoFar
+pub mod Behind
+pub mod Stands
+pub mod Ids
+pub mod Acted
+pub mod Acts
+pub mod Ways
+pub mod AtNode
+pub mod Nodes
+pub mod Once

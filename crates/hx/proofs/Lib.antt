@@ -1,0 +1,4 @@
+pub mod Limits
+pub mod Telling
+pub mod Noting
+pub mod Placed

@@ -1,0 +1,7 @@
+pub mod Readable
+pub mod Explained
+pub mod Status
+pub mod Logged
+pub mod Never
+pub mod Noted
+pub mod Stops

@@ -1,0 +1,236 @@
+//! What each command shows.
+
+ghost use Rattle.std.specs.Prelude.{IfOk};
+ghost use Rattle.pi_tree.specs.Protocols.{protocol_of};
+ghost use Rattle.pi_tree.specs.Accessors.{IsThere};
+ghost use Rattle.pi_tree.specs.declared.accessors.Kind.TheVariants.{Query as OfQueries};
+ghost use Rattle.hx.specs.Logged.{CanBeExplained};
+ghost use Rattle.hx.specs.Readable.{IsReadable};
+
+use crate::commands::{Command, LogOf, Request};
+use crate::impossible::impossible;
+use crate::loading::{load_protocol, load_run, read, refused_protocol};
+use crate::logging::query_log;
+use crate::outcome::Outcome;
+use crate::reason::put_reason;
+use clause_sources::Sources;
+use clause_translate::sources;
+use hv_io::Files;
+use log_text::{Setting, Told, put_log};
+use pi_tree::{Kind, Protocol};
+use protocol_text::{Source, VariableWords, put_points, put_warnings, variable_words};
+use run_chart::{Chart, Drawn, draw, put_chart, put_svg};
+use run_replay::Steps;
+use std::alloc::{AllocError, Global};
+use term_store::SharedBank;
+
+/// The budget with which it is asked what can't happen, in clauses.
+const WARN_BUDGET: u64 = 500;
+
+/// A protocol that was read, with its file.
+#[derive(Clone, Copy)]
+pub struct Loaded<'a> {
+    source: Source<'a>,
+    protocol: &'a Protocol,
+}
+
+/// The words of the variables of a protocol that was loaded.
+fn words_of(loaded: Loaded<'_>) -> Result<VariableWords, AllocError> {
+    variable_words(loaded.source)
+}
+
+/// The process of a protocol, point by point.
+fn points_of(loaded: Loaded<'_>) -> Result<Vec<u8>, AllocError> {
+    let alloc = loaded.source.alloc;
+    let words = words_of(loaded)?;
+    let mut text = Vec::new(alloc);
+    put_points(&mut text, alloc, loaded.protocol, &words)?;
+    Ok(text)
+}
+
+/// The number of a query, where the protocol has it.
+fn query_there(protocol: &Protocol, query: u32) -> Result<u32, Outcome>
+    ensures { IfOk result (λ number. IsThere (protocol_of protocol.now) OfQueries number) }
+{
+    if query == 0 || query > protocol.count(Kind::Query) {
+        return Err(Outcome::NoQuery(query));
+    }
+    Ok(query)
+}
+
+/// The sources of the given clauses of a log; none where there is no log.
+fn sources_of(
+    alloc: Global,
+    protocol: &Protocol,
+    query: u32,
+    told: &Told,
+) -> Result<Sources, AllocError>
+    requires readable { IsReadable (protocol_of protocol.now) }
+    requires there { IsThere (protocol_of protocol.now) OfQueries query }
+    requires ready { CanBeExplained (protocol_of protocol.now) told.now }
+{
+    match told {
+        Told::TooLarge(_) => Ok(Sources {
+            items: Vec::new(alloc),
+        }),
+        Told::Logged(_) => {
+            let mut bank = SharedBank::new(alloc)?;
+            let given = sources(alloc, &mut bank, protocol, query);
+            drop(bank);
+            given
+        }
+    }
+}
+
+/// What is told of the log of a query.
+fn told_text(loaded: Loaded<'_>, query: u32, told: &Told) -> Result<Vec<u8>, AllocError>
+    requires readable { IsReadable (protocol_of loaded.protocol.now) }
+    requires there { IsThere (protocol_of loaded.protocol.now) OfQueries query }
+    requires ready { CanBeExplained (protocol_of loaded.protocol.now) told.now }
+{
+    let alloc = loaded.source.alloc;
+    let given = sources_of(alloc, loaded.protocol, query, told)?;
+    let mut text = Vec::new(alloc);
+    put_log(&mut text, alloc, loaded.protocol, &given, told)?;
+    Ok(text)
+}
+
+/// The log of a query.
+fn log_of(loaded: Loaded<'_>, asked: LogOf) -> Result<Vec<u8>, Outcome>
+    requires { IsReadable (protocol_of loaded.protocol.now) }
+{
+    let number = query_there(loaded.protocol, asked.query)?;
+    let budget = u64::from(asked.budget);
+    let told = query_log(loaded.source.alloc, loaded.protocol, number, budget)?;
+    let text = told_text(loaded, number, &told);
+    drop(told);
+    Ok(text?)
+}
+
+/// Why a query isn't proved, by what is told of its log.
+fn reason_text(loaded: Loaded<'_>, query: u32, told: &Told) -> Result<Vec<u8>, AllocError>
+    requires readable { IsReadable (protocol_of loaded.protocol.now) }
+    requires there { IsThere (protocol_of loaded.protocol.now) OfQueries query }
+    requires ready { CanBeExplained (protocol_of loaded.protocol.now) told.now }
+{
+    let alloc = loaded.source.alloc;
+    let given = sources_of(alloc, loaded.protocol, query, told)?;
+    let variables = words_of(loaded)?;
+    let setting = Setting {
+        alloc,
+        protocol: loaded.protocol,
+        variables: &variables,
+    };
+    let mut text = Vec::new(alloc);
+    put_reason(&mut text, setting, query, &given, told)?;
+    Ok(text)
+}
+
+/// Why a query isn't proved.
+fn reason_of(loaded: Loaded<'_>, asked: LogOf) -> Result<Vec<u8>, Outcome>
+    requires { IsReadable (protocol_of loaded.protocol.now) }
+{
+    let number = query_there(loaded.protocol, asked.query)?;
+    let budget = u64::from(asked.budget);
+    let told = query_log(loaded.source.alloc, loaded.protocol, number, budget)?;
+    let text = reason_text(loaded, number, &told);
+    drop(told);
+    Ok(text?)
+}
+
+/// The warnings of a protocol.
+fn warnings_of(loaded: Loaded<'_>) -> Result<Vec<u8>, AllocError>
+    requires { IsReadable (protocol_of loaded.protocol.now) }
+{
+    let alloc = loaded.source.alloc;
+    let found = impossible(alloc, loaded.protocol, WARN_BUDGET)?;
+    let mut text = Vec::new(alloc);
+    put_warnings(&mut text, loaded.protocol, loaded.source, &found)?;
+    Ok(text)
+}
+
+/// A chart as text or as SVG.
+fn chart_text(alloc: Global, chart: &Chart, as_svg: bool) -> Result<Vec<u8>, AllocError> {
+    let mut text = Vec::new(alloc);
+    if as_svg {
+        put_svg(&mut text, alloc, chart)?;
+    } else {
+        put_chart(&mut text, alloc, chart)?;
+    }
+    Ok(text)
+}
+
+/// The chart of a run.
+#[tactic(auto, using(crate::proofs::Limits::limited))]
+fn chart_of(loaded: Loaded<'_>, steps: &Steps, as_svg: bool) -> Result<Vec<u8>, Outcome>
+    requires { IsReadable (protocol_of loaded.protocol.now) }
+{
+    let alloc = loaded.source.alloc;
+    let words = words_of(loaded)?;
+    match draw(alloc, loaded.protocol, &words, &steps.items)? {
+        Drawn::Chart(chart) => {
+            let text = chart_text(alloc, &chart, as_svg);
+            drop(chart);
+            Ok(text?)
+        }
+        Drawn::Stuck(number, error) => Err(Outcome::Stuck(number, error)),
+        Drawn::TooLong => Err(Outcome::LongRun),
+    }
+}
+
+/// What is to be shown of a protocol.
+fn shown<F: Files>(
+    loaded: Loaded<'_>,
+    command: Command<'_>,
+    files: &mut F,
+) -> Result<Vec<u8>, Outcome>
+    requires { IsReadable (protocol_of loaded.protocol.now) }
+{
+    match command {
+        Command::Points => Ok(points_of(loaded)?),
+        Command::Log(asked) => log_of(loaded, asked),
+        Command::Warn => Ok(warnings_of(loaded)?),
+        Command::Draw { run, as_svg } => {
+            let steps = load_run(loaded.source.alloc, run, files)?;
+            chart_of(loaded, &steps, as_svg)
+        }
+        Command::Why(asked) => reason_of(loaded, asked),
+    }
+}
+
+/// What is to be shown of the protocol that the bytes of a file spell.
+fn shown_of<F: Files>(
+    alloc: Global,
+    bytes: &[u8],
+    command: Command<'_>,
+    files: &mut F,
+) -> Result<Vec<u8>, Outcome> {
+    match read(alloc, bytes) {
+        Err(why) => Err(refused_protocol(bytes, why)),
+        Ok(reading) => {
+            let source = Source {
+                alloc,
+                bytes,
+                tokens: &reading.tokens,
+                sketch: &reading.sketch,
+            };
+            let loaded = Loaded {
+                source,
+                protocol: &reading.protocol,
+            };
+            let text = shown(loaded, command, files);
+            drop(reading);
+            text
+        }
+    }
+}
+
+/// What is asked, and the files that it names, come to: the text that is shown, or why nothing is.
+pub(crate) fn page<F: Files>(
+    alloc: Global,
+    asked: Request<'_>,
+    files: &mut F,
+) -> Result<Vec<u8>, Outcome> {
+    let bytes = load_protocol(asked.file, files)?;
+    shown_of(alloc, &bytes, asked.command, files)
+}

@@ -1,0 +1,3 @@
+pub mod Derives
+pub mod Known
+pub mod Whole

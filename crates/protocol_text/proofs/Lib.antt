@@ -1,0 +1,4 @@
+pub mod Listing
+pub mod SameRuns
+pub mod SubjectLists
+pub mod Proper

@@ -1,0 +1,11 @@
+-- fewer and fewer levels may be open
+use Rattle.protocol_text.proofs.variables.+processes.Given as goal
+
+abbrev pub decreases-note_process : goal.decreases-note_process
+decreases-note_process l = l.left
+
+abbrev pub decreases-note_next : goal.decreases-note_next
+decreases-note_next l = l.left
+
+abbrev pub decreases-note_unit : goal.decreases-note_unit
+decreases-note_unit l = l.left
