@@ -7,7 +7,6 @@ use std::marker::Model;
 
 /// A term.
 #[cycle(term)]
-#[derive(Debug)]
 pub enum TermSketch {
     /// `name(arguments)`, or `name` alone where there are no arguments.
     Named(usize, TermsSketch),
@@ -27,7 +26,7 @@ impl Drop for TermSketch {
 
 /// Terms in a row.
 #[cycle(term)]
-#[derive(Debug, Drop)]
+#[derive(Drop)]
 pub struct TermsSketch {
     pub items: Vec<TermSketch>,
 }
@@ -54,7 +53,6 @@ impl Model for TermsSketch {
 
 /// A pattern.
 #[cycle(pattern)]
-#[derive(Debug)]
 pub enum PatternSketch {
     /// `name(arguments)`, or `name` alone where there are no arguments.
     Named(usize, PatternsSketch),
@@ -77,7 +75,7 @@ impl Drop for PatternSketch {
 
 /// Patterns in a row.
 #[cycle(pattern)]
-#[derive(Debug, Drop)]
+#[derive(Drop)]
 pub struct PatternsSketch {
     pub items: Vec<PatternSketch>,
 }
@@ -103,14 +101,14 @@ impl Model for PatternsSketch {
 }
 
 /// An event or an entry, `name(arguments)`, or `name` alone where there are no arguments.
-#[derive(Debug, Drop)]
+#[derive(Drop)]
 pub struct AtomSketch {
     pub first: usize,
     pub arguments: TermsSketch,
 }
 
 /// What is asked of an entry besides its patterns.
-#[derive(Debug, Drop)]
+#[derive(Drop)]
 pub enum ConditionSketch {
     /// Nothing.
     Always,
@@ -120,7 +118,7 @@ pub enum ConditionSketch {
 
 /// A process.
 #[cycle(process)]
-#[derive(Debug, Drop)]
+#[derive(Drop)]
 pub enum ProcessSketch {
     /// A unit alone.
     Alone(Box<UnitSketch>),
@@ -130,7 +128,6 @@ pub enum ProcessSketch {
 
 /// A unit of a process.
 #[cycle(process)]
-#[derive(Debug)]
 pub enum UnitSketch {
     /// `0`.
     Zero(usize),
@@ -211,7 +208,7 @@ impl Drop for UnitSketch {
 
 /// A continuation, or an else branch.
 #[cycle(process)]
-#[derive(Debug, Drop)]
+#[derive(Drop)]
 pub enum NextSketch {
     /// Nothing.
     Omitted,
@@ -220,14 +217,14 @@ pub enum NextSketch {
 }
 
 /// One alternative of a query: `event atom`, and further events, each behind `&&`.
-#[derive(Debug, Drop)]
+#[derive(Drop)]
 pub struct AlternativeSketch {
     pub atom: AtomSketch,
     pub others: Vec<AtomSketch>,
 }
 
 /// What a query asks; of secrets with the number behind the word `phase`, if there is one.
-#[derive(Debug, Drop)]
+#[derive(Drop)]
 pub enum QuerySketch {
     /// `attacker(new name)`.
     AttackerNew(usize, usize, Option<usize>),
@@ -238,7 +235,7 @@ pub enum QuerySketch {
 }
 
 /// A rule, `name(arguments) -> result`.
-#[derive(Debug, Drop)]
+#[derive(Drop)]
 pub struct RuleSketch {
     pub first: usize,
     pub arguments: TermsSketch,
@@ -246,7 +243,7 @@ pub struct RuleSketch {
 }
 
 /// A declaration.
-#[derive(Debug, Drop)]
+#[derive(Drop)]
 pub enum DeclarationSketch {
     /// `free name, others.`, after `private` if not public.
     Free {
@@ -300,7 +297,7 @@ pub enum DeclarationSketch {
 }
 
 /// A file: its declarations, the number of the word `process`, and the main process.
-#[derive(Debug, Drop)]
+#[derive(Drop)]
 pub struct Sketch {
     pub declarations: Vec<DeclarationSketch>,
     pub first: usize,

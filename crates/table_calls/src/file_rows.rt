@@ -10,7 +10,7 @@ ghost use Rattle.std.specs.Prelude.{IfOk};
 ghost use Rattle.spec_protocol_tokens.specs.Lexed.{Lexed};
 
 use pi_lexer::{LexError, Token, Tokens, lex};
-use pi_parser::parse;
+use pi_parser::{DeclarationSketch, ProcessSketch, Sketch, UnitSketch, parse};
 use pi_tree::Protocol;
 use std::alloc::{AllocError, Global};
 use std::fmt::Debug;
@@ -157,8 +157,89 @@ fn tokens_of(alloc: Global, file: &[u8]) -> Result<String, AllocError> {
 /// What the grammar makes of a file.
 fn sketch_of(alloc: Global, file: &[u8]) -> Result<String, AllocError> {
     match lexed(alloc, file) {
-        Ok(tokens) => debug_text(alloc, &parse(alloc, file, &tokens)),
+        Ok(tokens) => parsed_text(alloc, file, &tokens),
         Err(_) => String::from_str(alloc, "no tokens"),
+    }
+}
+
+/// What the grammar makes of the tokens of a file.
+fn parsed_text(alloc: Global, file: &[u8], tokens: &Tokens) -> Result<String, AllocError>
+    requires { Lexed file.now tokens.now }
+{
+    match parse(alloc, file, tokens) {
+        Ok(sketch) => sketch_text(alloc, &sketch),
+        Err(_) => String::from_str(alloc, "no sketch"),
+    }
+}
+
+/// A sketch, as `Debug` has values; a part that no row has is `..`.
+fn sketch_text(alloc: Global, sketch: &Sketch) -> Result<String, AllocError> {
+    let declared = declarations_text(alloc, &sketch.declarations)?;
+    let main = process_text(alloc, &sketch.main)?;
+    format!(in alloc;
+        "Ok(Sketch {{ declarations: [{}], first: {}, main: {} }})",
+        declared.as_str(),
+        sketch.first,
+        main.as_str()
+    )
+}
+
+/// Declarations.
+fn declarations_text(alloc: Global, all: &[DeclarationSketch]) -> Result<String, AllocError> {
+    let mut text = String::new(alloc);
+    for declaration in all {
+        if !text.is_empty() {
+            text.push_str(", ")?;
+        }
+        add_declaration(alloc, declaration, &mut text)?;
+    }
+    Ok(text)
+}
+
+/// Adds a declaration.
+fn add_declaration(
+    alloc: Global,
+    declaration: &DeclarationSketch,
+    text: &mut String,
+) -> Result<(), AllocError> {
+    match declaration {
+        DeclarationSketch::Data { first, name, arity } => {
+            let item = format!(in alloc;
+                "Data {{ first: {first}, name: {name}, arity: {arity} }}"
+            )?;
+            text.push_str(item.as_str())
+        }
+        _ => text.push_str(".."),
+    }
+}
+
+/// A process of one unit, or of two.
+fn process_text(alloc: Global, process: &ProcessSketch) -> Result<String, AllocError> {
+    match process {
+        ProcessSketch::Alone(unit) => alone_text(alloc, unit),
+        ProcessSketch::Beside(unit, rest) => match &**rest {
+            ProcessSketch::Alone(other) => {
+                let first = unit_text(alloc, unit)?;
+                let second = alone_text(alloc, other)?;
+                format!(in alloc; "Beside({}, {})", first.as_str(), second.as_str())
+            }
+            ProcessSketch::Beside(..) => String::from_str(alloc, ".."),
+        },
+    }
+}
+
+/// A unit alone.
+fn alone_text(alloc: Global, unit: &UnitSketch) -> Result<String, AllocError> {
+    let text = unit_text(alloc, unit)?;
+    format!(in alloc; "Alone({})", text.as_str())
+}
+
+/// A unit.
+fn unit_text(alloc: Global, unit: &UnitSketch) -> Result<String, AllocError> {
+    match unit {
+        UnitSketch::Zero(at) => format!(in alloc; "Zero({at})"),
+        UnitSketch::Macro(at) => format!(in alloc; "Macro({at})"),
+        _ => String::from_str(alloc, ".."),
     }
 }
 
