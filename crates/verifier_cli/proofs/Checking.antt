@@ -5,29 +5,30 @@ use Rattle.std.proofs.lemmas.List.{take_min}
 use Rattle.spec_calculus.specs.Bounds.{most_report_bytes}
 use Rattle.spec_calculus.specs.Syntax as syntax
 use Rattle.spec_calculus.specs.Secrecy.{Holds}
-use Rattle.hv_io.specs.Place.{line_at}
+use Rattle.spec_protocol_scope.specs.Spells.{Spells}
 use Rattle.spec_certificates.specs.Shown.{IsProper}
 use Rattle.spec_certificates.specs.Certificate.{Certificate}
 use Rattle.spec_certificates.specs.Ruling as certificates
 use Rattle.spec_certificates.specs.Ruling.{IsRuled}
 use Rattle.spec_certificate_text.specs.Terms.{Code}
 use Rattle.spec_certificate_text.specs.Reports.{Claim, Proved, Bare, Unknown}
-use Rattle.spec_node_reading.specs.Reports.{SpellsReport, reports_of_both}
 use Rattle.spec_certificate_faults.specs.First.{IsFirstFault}
+use Rattle.spec_node_reading.specs.Reports.{SpellsReport, reports_of_both}
+use Rattle.hv_io.specs.Place.{line_at}
+use Rattle.protocol_loading.specs.Outside.{Outside}
 use Rattle.fact_reader.specs.Errors.{refusal_of}
-use Rattle.cert_text.specs.Refused.{IsFirstOf}
 use Rattle.fact_reader.specs.declared.error.CertError.{CertError}
 use Rattle.fact_reader.specs.declared.error.CertError.TheVariants as error
-use Rattle.spec_protocol_scope.specs.Spells.{Spells}
+use Rattle.cert_text.specs.Refused.{IsFirstOf}
 use Rattle.cert_checker.specs.declared.ruling.Ruling.TheVariants.{Accepted}
-use Rattle.verifier_cli.specs.declared.outcome.Finding.{Finding}
-use Rattle.verifier_cli.specs.declared.outcome.Finding.TheVariants.{Ruled}
-use Rattle.verifier_cli.specs.Outcome.{ReportRefusal, Misspelled, LongReport, Refusal, Protocol, Report, Run, Outcome, Checked, Refused, ReadFault, Memory}
+use Rattle.call_outcomes.specs.declared.outcome.Finding.{Finding}
+use Rattle.call_outcomes.specs.declared.outcome.Finding.TheVariants.{Ruled}
+use Rattle.call_outcomes.specs.Outcome.{ReportRefusal, Misspelled, LongReport, Refusal, Protocol, Report, Run, Outcome, Checked, Refused, ReadFault, Memory}
+use Rattle.call_outcomes.specs.Text.{prints_clauses}
 use Rattle.verifier_cli.specs.Command.{IsRefusalOf, NoneViolated}
 use Rattle.verifier_cli.specs.Checking.{MakesClaims, RefusesReport, IsFindingOf, AreFindingsOf, IsCheckOf, IsOutcomeOfReport, ChecksReport, IsCheckOutcome, Checks}
-use Rattle.verifier_cli.specs.Outside.{Outside, IfRead}
+use Rattle.verifier_cli.specs.Unread.{IfRead}
 use Rattle.verifier_cli.specs.ReportReading.{report_not_read, IsNoReport}
-use Rattle.verifier_cli.specs.Text.{prints_clauses}
 use Rattle.verifier_cli.proofs.Verifying.{Laws, same_refusal}
 
 -- the laws of the texts of reports on a protocol

@@ -2,19 +2,20 @@
 use Rattle.std.proofs.Common.{◌≡◌, ◌≢◌, ◌<◌, ◌≤◌, ℕ, List, [], ◌∷◌, length, take, Option, Some, None, IfSome, inl, inr, refl, sym, ap, subst, ◌∙◌, arith}
 use Rattle.spec_calculus.specs.Bounds.{most_bytes, most_report_bytes, most_run_bytes}
 use Rattle.spec_calculus.specs.Syntax as syntax
-use Rattle.command_words.specs.Request.{Request, Verify, Check, ListOf, Replay, RingOf}
-use Rattle.hv_io.specs.Files.{Load, with_loads}
 use Rattle.spec_protocol_scope.specs.Spells.{Spells}
 use Rattle.spec_ring_text.specs.Text.{ring_text}
-use Rattle.verifier_cli.specs.Outside.{Outside, outside, IsFaulty, IsNothingLoaded, IsUnloaded, OfFile, IfRead, load_of}
-use Rattle.verifier_cli.specs.Outcome.{Refusal, Protocol, Report, Run, Outcome, Verified, Checked, Listed, ListLarge, NoQuery, Replayed, Ring, Refused, ReadFault, Memory}
-use Rattle.verifier_cli.specs.Command.{Becomes, IsRefusalOf, IsDecidedBy}
+use Rattle.hv_io.specs.Files.{Load, with_loads}
+use Rattle.command_words.specs.Request.{Request, Verify, Check, ListOf, Replay, RingOf}
+use Rattle.protocol_loading.specs.Outside.{Outside, outside, IsFaulty, IsNothingLoaded, OfFile, load_of}
+use Rattle.call_outcomes.specs.Outcome.{Refusal, Protocol, Report, Run, Outcome, Verified, Checked, Listed, ListLarge, NoQuery, Replayed, Ring, Refused, ReadFault, Memory, Becomes}
+use Rattle.call_outcomes.specs.Decided.{IsDecidedBy}
+use Rattle.verifier_cli.specs.Unread.{IsUnloaded, IfRead, IsNoReading, IsUnread}
+use Rattle.verifier_cli.specs.Command.{IsRefusalOf}
 use Rattle.verifier_cli.specs.Checking.{ChecksReport, IsOutcomeOfReport}
 use Rattle.verifier_cli.specs.Listing.{IsListOf}
-use Rattle.verifier_cli.specs.Reading.{IsNoReading, IsUnread}
 use Rattle.verifier_cli.specs.Replaying.{RunsOn, IsOutcomeOfRun}
 use Rattle.verifier_cli.specs.Ringing.{Rings}
-use Rattle.verifier_cli.specs.World.{source_of, other_of, loads_of, IsHowFar, IsOutcomeFor, IsUnreadable, ComesTo}
+use Rattle.verifier_cli.specs.Requests.{source_of, other_of, loads_of, IsHowFar, IsOutcomeFor, IsUnreadable, ComesTo}
 use Rattle.verifier_cli.proofs.Files.{held_or_none, as_held, no_more_loads, loads_then}
 use Rattle.verifier_cli.proofs.Verifying.{Laws, Soundness, OneAttack, decided_verifies, decided_read, refusal_verifies, memory_verifies}
 use Rattle.verifier_cli.proofs.Checking.{Acceptance, report_checks, refusal_checked, memory_checked}

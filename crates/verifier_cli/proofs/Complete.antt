@@ -2,19 +2,21 @@
 use Rattle.std.proofs.Common.{◌≡◌, ◌≢◌, ◌⊎◌, ℕ, List, Option, Bool, true, false, if◌then◌else◌, inl, inr, refl, sym, subst}
 use Rattle.std.specs.List.{list_all}
 use Rattle.spec_calculus.specs.Syntax.{Protocol}
-use Rattle.spec_certificate_text.specs.Reports.{Claim}
 use Rattle.spec_calculus.specs.Runs.{Step}
+use Rattle.spec_certificate_text.specs.Reports.{Claim}
 use Rattle.command_words.specs.Request.{Request, Verify, Check, ListOf, Replay, RingOf}
-use Rattle.verifier_cli.specs.Outside.{Outside, IsFaulty}
-use Rattle.verifier_cli.specs.Outcome.{Outcome, Usage, Verified, Checked, Listed, ListLarge, NoQuery, Replayed, Ring, Refused, ReadFault, Memory}
-use Rattle.verifier_cli.specs.Command.{IsDecidedBy, NoneViolated, AttacksViolate}
+use Rattle.protocol_loading.specs.Outside.{Outside, IsFaulty}
+use Rattle.call_outcomes.specs.VerdictText.{is_proved}
+use Rattle.call_outcomes.specs.Outcome.{Outcome, Usage, Verified, Checked, Listed, ListLarge, NoQuery, Replayed, Ring, Refused, ReadFault, Memory}
+use Rattle.call_outcomes.specs.Text.{is_accepted, is_without_violation, status_of}
+use Rattle.call_outcomes.specs.Decided.{IsDecidedBy}
+use Rattle.verifier_cli.specs.Command.{NoneViolated, AttacksViolate}
 use Rattle.verifier_cli.specs.Checking.{IsCheckOf, IsCheckOutcome}
-use Rattle.verifier_cli.specs.Complete.{AreAccepted, IsOwnOutcome, IsOfAnswer}
 use Rattle.verifier_cli.specs.Listing.{IsListOf, IsListOutcome}
 use Rattle.verifier_cli.specs.Replaying.{IsOutcomeOfReplay, IsReplayOutcome}
 use Rattle.verifier_cli.specs.Ringing.{IsRingOutcome}
-use Rattle.verifier_cli.specs.Text.{is_proved, is_accepted, is_without_violation, status_of}
-use Rattle.verifier_cli.specs.World.{IsOutcomeFor, IsUnreadable, ComesTo}
+use Rattle.verifier_cli.specs.Requests.{IsOutcomeFor, IsUnreadable, ComesTo}
+use Rattle.verifier_cli.specs.Complete.{AreAccepted, IsOwnOutcome, IsOfAnswer}
 
 -- a list or a replay shows no query
 listed_violates_none : (bytes : List ℕ) (outcome : Outcome) → IsListOutcome bytes outcome → NoneViolated bytes outcome

@@ -1,83 +1,56 @@
 -- Files that were read, and those that were not.
-use Rattle.std.proofs.Common.{◌≡◌, ◌<◌, ◌≤◌, ◌+◌, ℕ, List, [], ◌∷◌, ◌++◌, length, take, Option, None, Some, IfSome, inl, inr, refl, sym, ap, subst, ◌∙◌, arith, append_assoc}
-use Rattle.std.proofs.lemmas.List.{append-nil, length-take, take_all}
+use Rattle.std.proofs.Common.{◌≡◌, ◌<◌, ℕ, List, [], ◌++◌, length, take, Option, None, Some, IfSome, inl, inr, refl, sym, ap, ◌∙◌, append_assoc}
+use Rattle.std.proofs.lemmas.List.{append-nil}
 use Rattle.spec_calculus.specs.Bounds.{most_bytes, most_report_bytes, most_run_bytes}
 use Rattle.spec_calculus.specs.Syntax as syntax
-use Rattle.hv_io.specs.Files.{Load, HoldsFirst, with_loads}
 use Rattle.spec_protocol_scope.specs.Spells as spells
-use Rattle.verifier_cli.specs.declared.loading.Unloaded.{Unloaded}
-use Rattle.verifier_cli.specs.declared.loading.Unloaded.TheVariants as unloaded
+use Rattle.hv_io.specs.Files.{Load, with_loads}
+use Rattle.hv_io.specs.Place.{line_at}
+use Rattle.protocol_loading.specs.declared.loading.Unloaded.{Unloaded}
+use Rattle.protocol_loading.specs.declared.loading.Unloaded.TheVariants as unloaded
+use Rattle.protocol_loading.specs.declared.loading.Unread.{Unread}
+use Rattle.protocol_loading.specs.declared.loading.Unread.TheVariants as unread
+use Rattle.protocol_loading.specs.Codes.{refusal_by}
+use Rattle.protocol_loading.specs.Outside.{Outside}
+use Rattle.protocol_loading.specs.Reading as loading
+use Rattle.protocol_loading.specs.Reading.{IsNoText}
+use Rattle.protocol_loading.proofs.Files.{of_file}
+use Rattle.call_outcomes.specs.Outcome.{LongReport, LongRun, Protocol, Outcome, Refused, Memory}
 use Rattle.verifier_cli.specs.Command.{IsRefusalOf}
 use Rattle.verifier_cli.specs.Checking.{RefusesReport}
-use Rattle.verifier_cli.specs.Outcome.{LongReport, LongRun, Protocol, Outcome}
-use Rattle.verifier_cli.specs.Outside.{Outside, OfFile, IfRead, load_of}
-use Rattle.verifier_cli.specs.Reading.{IsNoText, IsUnread, not_loaded}
 use Rattle.verifier_cli.specs.Replaying.{RefusesRun}
 use Rattle.verifier_cli.specs.ReportReading.{IsUnreadReport, report_not_loaded}
 use Rattle.verifier_cli.specs.RunReading.{IsUnreadRun, run_not_loaded}
+use Rattle.verifier_cli.specs.Unread.{IfRead, IsNoReading, IsUnread, outcome_by}
 
--- what follows from what is said of a file's bytes is said too
-pub of_file : (files : Outside) (name : List ℕ) (most : ℕ) (F G : List ℕ → Type 0) → ((bytes : List ℕ) → F bytes → G bytes) → OfFile files name most F → OfFile files name most G
-of_file files name most F G h x = record { bytes = x.bytes; as_held = x.as_held; as_loaded = x.as_loaded; fact = h x.bytes x.fact }
-
--- what is said of bytes that are all of a file is said of the file
-pub of_all : (files : Outside) (name : List ℕ) (most : ℕ) (F : List ℕ → Type 0) (bytes : List ℕ) → F bytes → OfFile files name most (λ all. bytes ≡ all) → OfFile files name most F
-of_all files name most F bytes h = of_file files name most (λ all. bytes ≡ all) F (λ all e. subst F e h)
-
+-- what follows from what is said of the bytes of a file that was read is said too
 pub if_read : (files : Outside) (name : List ℕ) (most : ℕ) (outcome : Outcome) (F G : List ℕ → Type 0) → ((bytes : List ℕ) → F bytes → G bytes) → IfRead files name most outcome F → IfRead files name most outcome G
 if_read files name most outcome F G h (inl x) = inl (of_file files name most F G h x)
 if_read files name most outcome F G h (inr why) = inr why
 
--- The bytes that a load gave, and those of the file.
+-- Where no protocol was read or loaded, the call comes to the reason.
 
--- bytes that are no more than one load gives are what it gives of them
-given : (name : List ℕ) (most : ℕ) (bytes : List ℕ) → length bytes ≤ most + 1 → load_of name most bytes ≡ record { name = name; bytes = bytes }
-given name most bytes fits = ap (λ (some : List ℕ). record { name = name; bytes = some }) (take_all (most + 1) bytes fits)
-
-all_held : (held : Option (List ℕ)) (most : ℕ) (bytes : List ℕ) → HoldsFirst (most + 1) held bytes → length bytes ≤ most → IfSome held (λ all. bytes ≡ all)
-all_held None most bytes first fits = tt
-all_held (Some all) most bytes first fits =
-    let counted : length bytes ≡ length (take (most + 1) all) = ap (λ (some : List ℕ). length some) first in
-    first ∙ take_all (most + 1) all (omega (arith, fits, counted, length-take (most + 1) all))
-
-pub whole_file : (files : Outside) (name : List ℕ) (most : ℕ) (bytes : List ℕ) → HoldsFirst (most + 1) (files.held name) bytes
-    → files.loads_after ≡ with_loads files.loads (record { name = name; bytes = bytes } ∷ []) → length bytes ≤ most → OfFile files name most (λ all. bytes ≡ all)
-whole_file files name most bytes first loaded fits = record {
-  bytes = bytes;
-  as_held = all_held (files.held name) most bytes first fits;
-  as_loaded = loaded ∙ ap (λ (load : Load). with_loads files.loads (load ∷ [])) (sym (given name most bytes (omega (arith, fits))));
-  fact = refl;
+place_shown : (bytes : List ℕ) (why : spells.Refusal) (line column : ℕ) → loading.IsRefusedAt bytes why line column → IsRefusalOf bytes (Protocol line column why)
+place_shown bytes why line column is = record {
+  why = why;
+  place = is.place;
+  refused = is.refused;
+  shown = ap (λ (row : ℕ). Protocol row column why) is.on_line ∙ ap (λ (column : ℕ). Protocol (line_at bytes is.place) column why) is.in_column;
 }
 
-pub long_file : (files : Outside) (name : List ℕ) (most : ℕ) (bytes : List ℕ) → HoldsFirst (most + 1) (files.held name) bytes
-    → files.loads_after ≡ with_loads files.loads (record { name = name; bytes = bytes } ∷ []) → length bytes ≤ most + 1 → most < length bytes → OfFile files name most (λ all. most < length all)
-long_file files name most bytes first loaded fits more = by_held (files.held name) refl first
-  where
-    Is : List ℕ → Option (List ℕ) → Type 0
-    Is some held = IfSome held (λ all. some ≡ all)
+pub no_reading : (bytes : List ℕ) (why : Unread) → loading.IsNoReading bytes why → IsNoReading bytes (outcome_by why)
+no_reading bytes unread.Fault is = absurd is
+no_reading bytes (unread.Refused line column why) is = place_shown bytes (refusal_by why) line column is
+no_reading bytes unread.Memory is = tt
 
-    by_held : (held : Option (List ℕ)) → files.held name ≡ held → HoldsFirst (most + 1) held bytes → OfFile files name most (λ all. most < length all)
-    by_held None e h = record {
-      bytes = bytes;
-      as_held = subst (Is bytes) (sym e) tt;
-      as_loaded = loaded ∙ ap (λ (load : Load). with_loads files.loads (load ∷ [])) (sym (given name most bytes fits));
-      fact = more;
-    }
-    by_held (Some all) e h = record {
-      bytes = all;
-      as_held = subst (Is all) (sym e) refl;
-      as_loaded = loaded ∙ ap (λ (some : List ℕ). with_loads files.loads (record { name = name; bytes = some } ∷ [])) h;
-      fact = let counted : length bytes ≡ length (take (most + 1) all) = ap (λ (some : List ℕ). length some) h in omega (arith, more, counted, length-take (most + 1) all);
-    }
+pub no_protocol : (files : Outside) (file : List ℕ) (why : Unread) → loading.IsUnread files file why → IsUnread files file (outcome_by why)
+no_protocol files file unread.Fault is = inr is
+no_protocol files file (unread.Refused line column why) is =
+    inl (of_file files file most_bytes (λ bytes. loading.IsRefusedAt bytes (refusal_by why) line column) (λ bytes. IsRefusalOf bytes (Protocol line column (refusal_by why))) (λ bytes at. place_shown bytes (refusal_by why) line column at) is)
+no_protocol files file unread.Memory (inl x) = inl x
+no_protocol files file unread.Memory (inr same) = inr (same, tt)
 
--- A text that was not loaded leaves the call without a protocol, a report or a run.
-
-pub no_protocol : (files : Outside) (file : List ℕ) (why : Unloaded) → IsNoText files file most_bytes why → IsUnread files file (not_loaded why)
-no_protocol files file unloaded.Failed is = inr is
-no_protocol files file unloaded.TooLong is =
-    inl (of_file files file most_bytes (λ bytes. most_bytes < length bytes) (λ bytes. IsRefusalOf bytes (Protocol 1 1 spells.LongFile))
-    (λ bytes more. record { why = spells.LongFile; place = 0; refused = (more, refl); shown = refl }) is)
-no_protocol files file unloaded.Memory is = inr (is, tt)
+-- A text that was not loaded leaves the call without a report or a run.
 
 pub no_report : (P : syntax.Protocol) (files : Outside) (report : List ℕ) (why : Unloaded) → IsNoText files report most_report_bytes why → IsUnreadReport P files report (report_not_loaded why)
 no_report P files report unloaded.Failed is = inr is

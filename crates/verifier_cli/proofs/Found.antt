@@ -5,7 +5,7 @@ use Rattle.spec_calculus.specs.Syntax.{Query, Protocol}
 use Rattle.spec_calculus.specs.Points.{numbered}
 use Rattle.cert_text.specs.Seen.{shared_claim_of}
 use Rattle.cert_text.specs.declared.shared_claims.SharedClaim.{SharedClaim}
-use Rattle.verifier_cli.specs.declared.outcome.Finding.{Finding}
+use Rattle.call_outcomes.specs.declared.outcome.Finding.{Finding}
 use Rattle.verifier_cli.specs.Checking.{IsFindingOf, AreFindingsOf}
 
 next_found : (P : Protocol) (qs : List Query) (cs : List SharedClaim) (i : ℕ) (fs : List Finding) (c : SharedClaim) (f : Finding) → i < length qs → i < length cs → c ≡ get_or cs i c

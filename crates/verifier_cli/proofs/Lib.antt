@@ -1,16 +1,14 @@
-pub mod Checking
-pub mod Comes
-pub mod Complete
-pub mod Found
-pub mod Files
-pub mod Limits
-pub mod Lines
-pub mod Listing
-pub mod OneLine
-pub mod ReadBack
-pub mod Refusals
-pub mod Replaying
-pub mod Rings
-pub mod RunText
-pub mod Verifying
-pub mod World
+mod Checking
+mod Comes
+mod Complete
+mod Files
+mod Found
+mod Limits
+mod Listing
+mod OneLine
+mod ReadBack
+mod Replaying
+mod Rings
+mod RunText
+mod Verifying
+mod World

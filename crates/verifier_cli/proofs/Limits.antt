@@ -6,10 +6,10 @@ use Rattle.spec_calculus.specs.Points.{numbered, name_arguments}
 use Rattle.spec_calculus.proofs.Items.{each-numbered, if_some-is}
 use Rattle.spec_well_formed.specs.Processes.{height}
 use Rattle.spec_well_formed.specs.Limits.{IsWithinLimits}
+use Rattle.spec_certificate_text.specs.OfProtocol.{IsShort}
 use Rattle.query_derive.proofs.FewArguments.{arguments_few}
 use Rattle.run_replay.specs.Limits.{IsLimited}
 use Rattle.term_reader.specs.Few.{HasFewArguments, HasFewNames}
-use Rattle.spec_certificate_text.specs.OfProtocol.{IsShort}
 
 pub limited : (P : Protocol) → IsWithinLimits P → IsLimited P
 limited P h =

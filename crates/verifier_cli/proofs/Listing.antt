@@ -1,10 +1,9 @@
 -- From a translation to what is said of the command `list`.
-use Rattle.std.proofs.Common.{◌≡◌, ◌≢◌, ◌∙◌, ℕ, List, Option, None, Some, inl, inr, refl, ap, subst}
+use Rattle.std.proofs.Common.{◌≢◌, ◌∙◌, ℕ, List, inl, inr, refl, ap, subst}
 use Rattle.spec_calculus.specs.Syntax as syntax
 use Rattle.spec_protocol_scope.specs.Spells.{Spells}
-use Rattle.verifier_cli.specs.Outcome.{Refusal, Outcome, Listed, ListLarge, NoQuery, Refused, ReadFault, Memory}
+use Rattle.call_outcomes.specs.Outcome.{Refusal, Outcome, Listed, ListLarge, NoQuery, Refused, ReadFault, Memory}
 use Rattle.verifier_cli.specs.Command.{IsRefusalOf}
-use Rattle.verifier_cli.specs.Text.{HasText, prints_clauses}
 use Rattle.verifier_cli.specs.Listing.{IsListOf, IsListOutcome, Lists}
 use Rattle.verifier_cli.proofs.Verifying.{Laws, same_refusal}
 
@@ -42,8 +41,3 @@ list_lists laws bytes P number outcome is spelled = record {
   accepts = λ Q spells. subst (λ (X : syntax.Protocol). IsListOf X number outcome) (laws.one_protocol bytes P Q spelled spells) is;
   refuses = λ why place refused. absurd (laws.never_both bytes P why place spelled refused);
 }
-
--- want of memory prints no clause, and so wants no words
-pub memory_has_words : (P : Option syntax.Protocol) (outcome : Outcome) → outcome ≡ Memory → HasText P outcome
-memory_has_words None outcome is = ap prints_clauses is
-memory_has_words (Some P) outcome is = tt

@@ -8,9 +8,11 @@ use Rattle.spec_calculus.specs.Bounds.{most_budget}
 use Rattle.spec_calculus.specs.Syntax.{Query, Protocol}
 use Rattle.spec_calculus.specs.Points.{numbered}
 use Rattle.spec_calculus.proofs.Items.{each-contains}
+use Rattle.spec_calculus.specs.Runs.{Step}
 use Rattle.spec_well_formed.specs.Limits.{IsSmallQuery, IsWithinLimits}
 use Rattle.spec_protocol_scope.specs.Spells.{Spells}
 use Rattle.spec_protocol_scope.specs.Words.{HasWords}
+use Rattle.spec_run_text.specs.Spelling.{line_of}
 use Rattle.spec_certificates.specs.Certificate.{Certificate}
 use Rattle.spec_certificates.specs.Ruling as certificates
 use Rattle.spec_certificates.specs.Ruling.{IsRuled}
@@ -21,24 +23,23 @@ use Rattle.spec_certificate_text.specs.Readable.{IsReadableCertificate}
 use Rattle.spec_certificate_text.specs.Reports as reports
 use Rattle.spec_certificate_text.specs.Reports.{Claim, Unknown}
 use Rattle.spec_certificate_text.specs.ReportText.{query_text, IsReason}
-use Rattle.spec_calculus.specs.Runs.{Step}
-use Rattle.spec_run_text.specs.Spelling.{line_of}
 use Rattle.spec_node_reading.specs.Readable.{SpellsCertificate}
 use Rattle.spec_node_reading.specs.Reports.{SpellsClaim, SpellsClaims, SpellsReport}
-use Rattle.cert_form.specs.Writing.{format_for, text_in}
 use Rattle.log_entries.specs.declared.log.PlainEntry.{PlainEntry}
+use Rattle.cert_form.specs.Writing.{format_for, text_in}
 use Rattle.cert_checker.specs.declared.ruling.Ruling.{Ruling}
 use Rattle.cert_checker.specs.declared.ruling.Ruling.TheVariants.{Accepted, Shape, Translation, Cover, Closure, Goal, Extra}
 use Rattle.cert_checker.specs.Rulings.{ruling_of}
 use Rattle.query_verify.specs.declared.answers.Verdict.{Verdict}
 use Rattle.query_verify.specs.declared.answers.Verdict.TheVariants.{Proved, Budget, SizePair, SizePoint, Unmet, Attack}
 use Rattle.query_verify.specs.Told.{IsAnswer, AnswerQueries}
-use Rattle.verifier_cli.specs.declared.outcome.Finding.{Finding}
-use Rattle.verifier_cli.specs.declared.outcome.Finding.TheVariants.{Ruled, Missing, NotClaimed}
-use Rattle.verifier_cli.specs.Outcome.{Outcome, Verified, Checked, Memory}
-use Rattle.verifier_cli.specs.Command.{Becomes, Verifies}
+use Rattle.call_outcomes.specs.VerdictText.{line, entry_text, run_lines, verdict_text, verdict_lines}
+use Rattle.call_outcomes.specs.declared.outcome.Finding.{Finding}
+use Rattle.call_outcomes.specs.declared.outcome.Finding.TheVariants.{Ruled, Missing, NotClaimed}
+use Rattle.call_outcomes.specs.Outcome.{Outcome, Verified, Checked, Memory, Becomes}
+use Rattle.call_outcomes.specs.Text.{outcome_bytes}
+use Rattle.verifier_cli.specs.Command.{Verifies}
 use Rattle.verifier_cli.specs.Checking.{IsFindingOf, AreFindingsOf, IsCheckOf}
-use Rattle.verifier_cli.specs.Text.{line, entry_text, run_lines, verdict_text, verdict_lines, outcome_bytes}
 use Rattle.verifier_cli.specs.ReadBack.{finding_of, IsReadBack}
 use Rattle.verifier_cli.proofs.OneLine.{IsOneLine, joined, decimal_in_line, clause_in_line}
 use Rattle.verifier_cli.proofs.RunText.{not_zero, steps_are_reasons, run_as}

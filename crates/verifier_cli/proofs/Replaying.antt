@@ -3,19 +3,20 @@ use Rattle.std.proofs.Common.{◌≡◌, false, ℕ, ◌≤◌, List, length, in
 use Rattle.spec_calculus.specs.Bounds.{most_run_bytes}
 use Rattle.spec_calculus.specs.Syntax as syntax
 use Rattle.spec_calculus.specs.Runs.{Step}
-use Rattle.hv_io.specs.Faults.{IsFaultCounted}
 use Rattle.spec_protocol_scope.specs.Spells.{Spells}
 use Rattle.spec_run_text.specs.Faults.{Fault}
 use Rattle.spec_run_text.specs.Text.{SpellsRun, IsRefused}
+use Rattle.hv_io.specs.Faults.{IsFaultCounted}
+use Rattle.protocol_loading.specs.Outside.{Outside}
 use Rattle.run_replay.specs.declared.error.RunError.{RunError}
 use Rattle.run_replay.specs.declared.error.RunError.TheVariants as error
 use Rattle.run_replay.specs.Answer as text
-use Rattle.verifier_cli.specs.Outcome.{RunRefusal, Faulty, LongRun, Refusal, Protocol, Report, Run, Outcome, Replayed, Refused, ReadFault, Memory}
+use Rattle.call_outcomes.specs.Outcome.{RunRefusal, Faulty, LongRun, Refusal, Protocol, Report, Run, Outcome, Replayed, Refused, ReadFault, Memory}
+use Rattle.call_outcomes.specs.Text.{prints_clauses}
 use Rattle.verifier_cli.specs.Command.{IsRefusalOf}
-use Rattle.verifier_cli.specs.Outside.{Outside, IfRead}
+use Rattle.verifier_cli.specs.Unread.{IfRead}
 use Rattle.verifier_cli.specs.Replaying.{SpellsSteps, RefusesRun, IsOutcomeOfReplay, IsOutcomeOfRun, RunsOn, IsReplayOutcome, Replays}
 use Rattle.verifier_cli.specs.RunReading.{IsNoRun, run_not_read}
-use Rattle.verifier_cli.specs.Text.{prints_clauses}
 use Rattle.verifier_cli.proofs.Verifying.{Laws, same_refusal}
 
 -- the laws of the texts of runs

@@ -5,20 +5,20 @@ use Rattle.spec_calculus.specs.Syntax as syntax
 use Rattle.spec_calculus.specs.Syntax.{Free, Query, Secret}
 use Rattle.spec_calculus.specs.Points.{numbered}
 use Rattle.spec_calculus.specs.Secrecy.{Holds}
-use Rattle.spec_attack_runs.specs.Attack.{Violates}
-use Rattle.spec_terms.specs.Term.{Term}
-use Rattle.spec_clauses.specs.Fact.{Clause}
-use Rattle.spec_translation.specs.Translation.{Clauses, IsTranslation}
-use Rattle.query_derive.specs.GoalRows.{OfQuery}
-use Rattle.query_verify.specs.declared.answers.Verdict.{Verdict}
-use Rattle.query_verify.specs.Told.{IsAnswer, AnswerQueries}
 use Rattle.spec_protocol_scope.specs.Spells.{Spells, Refusal, Refuses}
 use Rattle.spec_ring_text.specs.Text.{ring_text}
 use Rattle.spec_ring_text.specs.Meaning.{ring_protocol}
-use Rattle.verifier_cli.specs.declared.outcome.Ring.{Ring as Summary}
-use Rattle.verifier_cli.specs.Outcome.{Outcome, Ring, Refused, ReadFault, Memory}
+use Rattle.spec_terms.specs.Term.{Term}
+use Rattle.spec_clauses.specs.Fact.{Clause}
+use Rattle.spec_translation.specs.Translation.{Clauses, IsTranslation}
+use Rattle.spec_attack_runs.specs.Attack.{Violates}
+use Rattle.query_derive.specs.GoalRows.{OfQuery}
+use Rattle.query_verify.specs.declared.answers.Verdict.{Verdict}
+use Rattle.query_verify.specs.Told.{IsAnswer, AnswerQueries}
+use Rattle.call_outcomes.specs.declared.outcome.Ring.{Ring as Summary}
+use Rattle.call_outcomes.specs.Outcome.{Outcome, Ring, Refused, ReadFault, Memory}
 use Rattle.verifier_cli.specs.Command.{NoneViolated, AttacksViolate}
-use Rattle.verifier_cli.specs.Reading.{IsNoReading}
+use Rattle.verifier_cli.specs.Unread.{IsNoReading}
 use Rattle.verifier_cli.specs.Ringing.{HasCount, IsSummaryOf, IsRingOf, IsRingOutcome, Rings}
 use Rattle.verifier_cli.proofs.Verifying.{Soundness, Laws, none_violated, attacks_violate}
 

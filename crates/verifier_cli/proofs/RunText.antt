@@ -6,7 +6,7 @@ use Rattle.std.proofs.lemmas.Bool.Decides.{nat_tests}
 use Rattle.spec_calculus.specs.Runs.{Step, Build, Reduce, Part, Fresh, Split, Copy, Make, Pass, Hear, Say, Take, Fail, Mark, Next, Put, Fetch, Miss}
 use Rattle.spec_run_text.specs.Spelling.{word_of, numbers_of, spaced, line_of}
 use Rattle.spec_certificate_text.specs.ReportText.{IsReason, steps_text, run_text}
-use Rattle.verifier_cli.specs.Text.{line, step_lines, run_lines}
+use Rattle.call_outcomes.specs.VerdictText.{line, step_lines, run_lines}
 use Rattle.verifier_cli.proofs.OneLine.{IsOneLine, joined, decimal_in_line}
 
 pub not_zero : (n : ℕ) → (suc n == 0) ≡ false

@@ -5,22 +5,23 @@ use Rattle.spec_calculus.specs.Syntax as syntax
 use Rattle.spec_calculus.specs.Runs.{Step}
 use Rattle.spec_calculus.specs.Secrecy.{Holds}
 use Rattle.spec_calculus.proofs.Items.{if_some-of}
-use Rattle.spec_saturation.specs.Key.{Entry}
-use Rattle.spec_attack_runs.specs.Attack.{Reconstructed, Violates}
+use Rattle.spec_protocol_scope.specs.Spells as spells
+use Rattle.spec_protocol_scope.specs.Spells.{Spells, Refuses}
 use Rattle.spec_certificates.specs.Shown.{IsProper}
 use Rattle.spec_certificates.specs.Certificate.{Certificate}
+use Rattle.spec_saturation.specs.Key.{Entry}
 use Rattle.spec_verdicts.specs.Verdict as defined
 use Rattle.spec_verdicts.specs.Verdict.{IsVerdict}
+use Rattle.spec_attack_runs.specs.Attack.{Reconstructed, Violates}
+use Rattle.protocol_loading.specs.Outside.{Outside}
 use Rattle.query_verify.specs.declared.answers.Verdict.{Verdict}
 use Rattle.query_verify.specs.declared.answers.Verdict.TheVariants.{Proved, Budget, SizePair, SizePoint, Unmet, Attack}
 use Rattle.query_verify.specs.Told.{Tells, IsAnswer, AnswerQueries}
-use Rattle.spec_protocol_scope.specs.Spells as spells
-use Rattle.spec_protocol_scope.specs.Spells.{Spells, Refuses}
-use Rattle.verifier_cli.specs.Outcome.{Refusal, Outcome, Verified, Refused, ReadFault, Memory}
-use Rattle.verifier_cli.specs.Command.{IsRefusalOf, Verifies, NoneViolated, IsAttackedBy, AttacksViolate, HasAttack, IsDecidedBy, IsOutcomeOf, refusal_at}
-use Rattle.verifier_cli.specs.Outside.{Outside}
-use Rattle.verifier_cli.specs.Reading.{IsUnread}
-use Rattle.verifier_cli.specs.Text.{prints_clauses}
+use Rattle.call_outcomes.specs.Outcome.{Refusal, Outcome, Verified, Refused, ReadFault, Memory}
+use Rattle.call_outcomes.specs.Text.{prints_clauses}
+use Rattle.call_outcomes.specs.Decided.{IsDecidedBy}
+use Rattle.verifier_cli.specs.Command.{IsRefusalOf, Verifies, NoneViolated, IsAttackedBy, AttacksViolate, HasAttack, IsOutcomeOf, refusal_at}
+use Rattle.verifier_cli.specs.Unread.{IsUnread}
 
 -- the laws that the headline rests on: queries of protocols that were read are proper, and what is proved of those holds
 pub record Soundness : Type 0 where

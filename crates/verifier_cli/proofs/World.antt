@@ -1,20 +1,21 @@
 -- From what is asked and what it comes to to all that is said of a call.
-use Rattle.std.proofs.Common.{◌≡◌, ◌≢◌, ◌≤◌, ◌⊎◌, ℕ, zero, suc, List, Option, Some, None, true, false, inl, inr, refl, sym, ap, subst, ◌∙◌, arith}
+use Rattle.std.proofs.Common.{◌≡◌, ◌≤◌, ◌⊎◌, ℕ, zero, suc, List, Option, Some, None, true, false, inl, inr, refl, sym, subst, ◌∙◌, arith}
 use Rattle.spec_calculus.specs.Bounds.{most_budget, most_keys}
 use Rattle.spec_calculus.specs.Syntax.{Protocol}
-use Rattle.command_words.specs.Request.{Request, Verify, Check, ListOf, Replay, RingOf, request_of}
-use Rattle.hv_io.specs.Sink.{appended, AppendsPart}
 use Rattle.spec_protocol_scope.specs.Spells.{Spells}
-use Rattle.verifier_cli.specs.Outside.{Outside, IsNothingLoaded}
-use Rattle.verifier_cli.specs.Outcome.{Outcome, Usage, Verified, Memory}
-use Rattle.verifier_cli.specs.Command.{Becomes, IsAskable, IsNoCommand, Verifies}
+use Rattle.command_words.specs.Request.{Request, Verify, Check, ListOf, Replay, RingOf, request_of}
+use Rattle.protocol_loading.specs.Outside.{Outside, IsNothingLoaded}
+use Rattle.call_outcomes.specs.Outcome.{Outcome, Usage, Verified, Memory, Becomes}
+use Rattle.call_outcomes.specs.SeenOutcome.{outcome_of}
+use Rattle.call_outcomes.specs.Text.{HasText, outcome_bytes}
+use Rattle.call_outcomes.specs.declared.outcome.Outcome as declared
+use Rattle.verifier_cli.specs.Command.{IsAskable, Verifies}
 use Rattle.verifier_cli.specs.ReadBack.{IsReadBack}
-use Rattle.verifier_cli.specs.SeenOutcome.{outcome_of}
-use Rattle.verifier_cli.specs.Text.{HasText, outcome_bytes}
-use Rattle.verifier_cli.specs.World.{ComesTo, IsWritten, World, format_of}
-use Rattle.verifier_cli.specs.declared.outcome.Outcome as declared
-use Rattle.verifier_cli.proofs.Complete.{violates_none, attacks_violate, is_complete}
+use Rattle.verifier_cli.specs.Requests.{ComesTo}
 use Rattle.verifier_cli.proofs.Comes.{comes_after, memory_comes}
+use Rattle.verifier_cli.specs.Words.{IsNoCommand}
+use Rattle.verifier_cli.specs.World.{World, format_of}
+use Rattle.verifier_cli.proofs.Complete.{violates_none, attacks_violate, is_complete}
 
 -- What words ask for.
 
@@ -58,12 +59,6 @@ never_usage (RingOf stages) files words c = (c.defined (λ e. cc)).answers
 
 pub never_for_nothing : (asked : Request) (files : Outside) (outcome : Outcome) (Writes : List ℕ → Type 0) → World asked files outcome Writes → outcome ≡ Usage → ⊥
 never_for_nothing asked files outcome Writes world e = never_usage asked files world.words (subst (ComesTo asked files world.words) e world.comes)
-
--- the text of an outcome that is known was written, or a part of it
-pub written_of : (format status : ℕ) (old new : Option (List ℕ)) (text : List ℕ) (P : Option Protocol) (found known : declared.Outcome) → found ≡ known
-    → (status ≢ 6 → new ≡ appended old text) → (status ≡ 6 → AppendsPart old new text) → outcome_bytes format P (outcome_of known) ≡ text → IsWritten status old new (outcome_bytes format P (outcome_of found))
-written_of format status old new text P found known is whole part bytes =
-    subst (IsWritten status old new) (sym (ap (λ (o : declared.Outcome). outcome_bytes format P (outcome_of o)) is ∙ bytes)) (whole, part)
 
 -- Worlds.
 

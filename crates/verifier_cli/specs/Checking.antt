@@ -2,19 +2,19 @@
 use Rattle.std.specs.Prelude.{◌≡◌, ℕ, ◌<◌, ◌≤◌, List, [], ◌∷◌, length}
 use Rattle.spec_calculus.specs.Bounds.{most_report_bytes}
 use Rattle.spec_calculus.specs.Syntax.{Query, Protocol}
-use Rattle.hv_io.specs.Place.{line_at}
 use Rattle.spec_protocol_scope.specs.Spells as spells
 use Rattle.spec_protocol_scope.specs.Spells.{Spells, Refuses}
 use Rattle.spec_certificates.specs.Ruling.{IsRuled}
 use Rattle.spec_certificate_text.specs.Reports.{Claim, Proved, Bare, Unknown}
-use Rattle.spec_node_reading.specs.Reports.{SpellsReport, reports_of_both}
 use Rattle.spec_certificate_faults.specs.First.{IsFirstFault}
+use Rattle.spec_node_reading.specs.Reports.{SpellsReport, reports_of_both}
+use Rattle.hv_io.specs.Place.{line_at}
 use Rattle.cert_checker.specs.Rulings.{ruling_of}
-use Rattle.verifier_cli.specs.declared.outcome.Finding.{Finding}
-use Rattle.verifier_cli.specs.declared.outcome.Finding.TheVariants.{Ruled, Missing, NotClaimed}
-use Rattle.verifier_cli.specs.Outcome as own
-use Rattle.verifier_cli.specs.Outcome.{ReportRefusal, Misspelled, LongReport, Outcome, Checked, Refused, Report, Memory}
-use Rattle.verifier_cli.specs.Command.{Becomes, IsRefusalOf, refusal_at, NoneViolated}
+use Rattle.call_outcomes.specs.declared.outcome.Finding.{Finding}
+use Rattle.call_outcomes.specs.declared.outcome.Finding.TheVariants.{Ruled, Missing, NotClaimed}
+use Rattle.call_outcomes.specs.Outcome as own
+use Rattle.call_outcomes.specs.Outcome.{ReportRefusal, Misspelled, LongReport, Outcome, Checked, Refused, Report, Memory, Becomes}
+use Rattle.verifier_cli.specs.Command.{IsRefusalOf, refusal_at, NoneViolated}
 
 -- the bytes, which are not too many, are a report that claims this of the protocol's queries, in order
 abbrev pub MakesClaims : Protocol → List ℕ → List Claim → Type 0

@@ -1,36 +1,28 @@
 -- What the words, the bytes of a file and the protocol that they spell have to do with the outcome.
-use Rattle.std.specs.Prelude.{◌≡◌, ◌≤◌, ℕ, ◌⊎◌, List, Some, None, IfSome, slice_get}
+use Rattle.std.specs.Prelude.{◌≡◌, ◌≤◌, ℕ, ◌⊎◌, List, Some, IfSome, slice_get}
 use Rattle.spec_calculus.specs.Bounds.{most_budget, most_keys}
 use Rattle.spec_calculus.specs.Syntax as syntax
 use Rattle.spec_calculus.specs.Runs.{Step}
 use Rattle.spec_calculus.specs.Secrecy.{Holds}
-use Rattle.spec_saturation.specs.Key.{Entry}
-use Rattle.spec_attack_runs.specs.Attack.{IsAttack, Violates}
-use Rattle.spec_verdicts.specs.Verdict.{IsVerdict, Unmet}
-use Rattle.command_words.specs.Request.{Request, Verify, RingOf, request_of}
-use Rattle.hv_io.specs.Place.{line_at, column_at}
 use Rattle.spec_protocol_scope.specs.Spells as spells
 use Rattle.spec_protocol_scope.specs.Spells.{Spells, Refuses}
 use Rattle.spec_certificates.specs.Certificate.{Certificate}
-use Rattle.query_verify.specs.declared.answers.Verdict.TheVariants.{Proved, Attack}
-use Rattle.query_verify.specs.Told.{AnswerQueries}
+use Rattle.spec_saturation.specs.Key.{Entry}
+use Rattle.spec_verdicts.specs.Verdict.{IsVerdict, Unmet}
+use Rattle.spec_attack_runs.specs.Attack.{IsAttack, Violates}
+use Rattle.hv_io.specs.Place.{line_at, column_at}
+use Rattle.command_words.specs.Request.{Request, Verify, RingOf}
 use Rattle.cert_checker.specs.declared.ruling.Ruling.TheVariants.{Accepted}
-use Rattle.verifier_cli.specs.declared.outcome.Finding.TheVariants.{Ruled}
-use Rattle.verifier_cli.specs.Outcome.{Refusal, Protocol, Outcome, Usage, Verified, Checked, Listed, ListLarge, NoQuery, Replayed, Ring, Refused, ReadFault, Memory}
-
--- the words make this request
-abbrev pub Asks : List (List ℕ) → Request → Type 0
-Asks words request = request_of words ≡ Some request
+use Rattle.query_verify.specs.declared.answers.Verdict.TheVariants.{Proved, Attack}
+use Rattle.call_outcomes.specs.declared.outcome.Finding.TheVariants.{Ruled}
+use Rattle.call_outcomes.specs.Outcome.{Refusal, Protocol, Outcome, Usage, Verified, Checked, Listed, ListLarge, NoQuery, Replayed, Ring, Refused, ReadFault, Memory, Becomes}
+use Rattle.call_outcomes.specs.Decided.{IsDecidedBy}
 
 -- the numbers of a request are within their limits: the budget, the format of certificates, and the number of a ring's keys
 abbrev pub IsAskable : Request → Type 0
 IsAskable (Verify file budget format) = (budget ≤ most_budget) × ((1 ≤ format) × (format ≤ 2))
 IsAskable (RingOf stages) = (2 ≤ stages) × (stages ≤ most_keys)
 IsAskable _ = Unit {0}
-
--- the words ask for nothing
-abbrev pub IsNoCommand : List (List ℕ) → Type 0
-IsNoCommand words = request_of words ≡ None
 
 -- the refusal of bytes at one of them, by its line and column
 abbrev pub refusal_at : List ℕ → spells.Refusal → ℕ → Refusal
@@ -43,22 +35,12 @@ pub record IsRefusalOf (bytes : List ℕ) (refusal : Refusal) : Type 0 where
   pub refused : Refuses bytes why place
   pub shown : refusal ≡ refusal_at bytes why place
 
--- what the queries of the protocol come to: the verdict of each with the budget, in order, or want of memory in their place
-abbrev pub IsDecidedBy : syntax.Protocol → ℕ → Outcome → Type 0
-IsDecidedBy P budget (Verified verdicts) = AnswerQueries P budget P.queries verdicts
-IsDecidedBy P budget Memory = Unit {0}
-IsDecidedBy P budget _ = ⊥
-
 -- what the queries of a file with these bytes may come to
 abbrev pub IsOutcomeOf : List ℕ → Outcome → Type 0
 IsOutcomeOf bytes (Verified verdicts) = (P : syntax.Protocol) × Spells bytes P
 IsOutcomeOf bytes (Refused refusal) = IsRefusalOf bytes refusal
 IsOutcomeOf bytes Memory = Unit {0}
 IsOutcomeOf bytes _ = ⊥
-
--- the outcome is the wanted one, or want of memory in its place
-abbrev pub Becomes : Outcome → Outcome → Type 0
-Becomes wanted outcome = (outcome ≡ wanted) ⊎ (outcome ≡ Memory)
 
 -- this query, counted from 0, is proved, or the certificate that claims so is accepted
 abbrev pub IsShownAt : Outcome → ℕ → Type 0

@@ -5,7 +5,7 @@ use Rattle.spec_calculus.specs.Runs.{Step}
 use Rattle.spec_protocol_scope.specs.Spells.{Spells}
 use Rattle.spec_certificate_text.specs.Reports.{Claim}
 use Rattle.command_words.specs.Request.{Request, Verify, Check, ListOf, Replay, RingOf}
-use Rattle.verifier_cli.specs.Outcome.{Outcome, Verified, Checked, Listed, ListLarge, NoQuery, Replayed, Ring, Memory}
+use Rattle.call_outcomes.specs.Outcome.{Outcome, Verified, Checked, Listed, ListLarge, NoQuery, Replayed, Ring, Memory}
 use Rattle.verifier_cli.specs.Checking.{MakesClaims}
 use Rattle.verifier_cli.specs.Replaying.{SpellsSteps}
 

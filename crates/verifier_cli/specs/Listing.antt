@@ -1,15 +1,12 @@
--- What the command `list` comes to: the translation of a protocol and a query of it, and whose words are printed.
-use Rattle.std.specs.Prelude.{◌≡◌, ℕ, List, Option, Some, None, option_map, option_copied}
-use Rattle.std.specs.Borrow.{Bor}
-use Rattle.pi_tree.specs.declared.protocols.Protocol.{Protocol as Protocol'}
-use Rattle.pi_tree.specs.Protocols.{protocol_of}
+-- What the command `list` comes to: the translation of a protocol and a query of it.
+use Rattle.std.specs.Prelude.{◌≡◌, ℕ, List, Some, None}
 use Rattle.spec_calculus.specs.Syntax as syntax
 use Rattle.spec_calculus.specs.Points.{numbered}
 use Rattle.spec_protocol_scope.specs.Spells as spells
 use Rattle.spec_protocol_scope.specs.Spells.{Spells, Refuses}
 use Rattle.spec_translation.specs.Translation.{Translated, Clauses, LargeAt, IsTranslation}
-use Rattle.verifier_cli.specs.Outcome.{Outcome, Listed, ListLarge, NoQuery, Refused, Memory}
-use Rattle.verifier_cli.specs.Command.{Becomes, IsRefusalOf, refusal_at}
+use Rattle.call_outcomes.specs.Outcome.{Outcome, Listed, ListLarge, NoQuery, Refused, Memory, Becomes}
+use Rattle.verifier_cli.specs.Command.{IsRefusalOf, refusal_at}
 
 -- the protocol's query of that number has this translation
 abbrev pub IsTranslated : syntax.Protocol → ℕ → Translated → Type 0
@@ -40,7 +37,3 @@ pub record Lists (bytes : List ℕ) (number : ℕ) (outcome : Outcome) : Type 0 
   pub accepts : (P : syntax.Protocol) → Spells bytes P → IsListOf P number outcome
   -- and where they are refused, it is this refusal, at this place
   pub refuses : (why : spells.Refusal) (place : ℕ) → Refuses bytes why place → Becomes (Refused (refusal_at bytes why place)) outcome
-
--- the protocol in whose words clauses are printed
-abbrev pub words_of : Option (Bor Protocol') → Option syntax.Protocol
-words_of protocol = option_map protocol_of (option_copied protocol)

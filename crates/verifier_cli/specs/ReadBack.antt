@@ -4,10 +4,9 @@ use Rattle.spec_calculus.specs.Bounds.{most_report_bytes}
 use Rattle.cert_checker.specs.declared.ruling.Ruling.TheVariants.{Accepted}
 use Rattle.query_verify.specs.declared.answers.Verdict.{Verdict}
 use Rattle.query_verify.specs.declared.answers.Verdict.TheVariants.{Proved}
-use Rattle.verifier_cli.specs.declared.outcome.Finding.{Finding}
-use Rattle.verifier_cli.specs.declared.outcome.Finding.TheVariants.{Ruled, NotClaimed}
-use Rattle.verifier_cli.specs.Outcome.{Outcome, Verified, Checked}
-use Rattle.verifier_cli.specs.Command.{Becomes}
+use Rattle.call_outcomes.specs.declared.outcome.Finding.{Finding}
+use Rattle.call_outcomes.specs.declared.outcome.Finding.TheVariants.{Ruled, NotClaimed}
+use Rattle.call_outcomes.specs.Outcome.{Outcome, Verified, Checked, Becomes}
 use Rattle.verifier_cli.specs.Checking.{Checks}
 
 -- what is found where a verdict is read back: of a query that is proved that its certificate is accepted, of another that nothing

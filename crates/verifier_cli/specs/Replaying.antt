@@ -7,9 +7,9 @@ use Rattle.spec_protocol_scope.specs.Spells as spells
 use Rattle.spec_protocol_scope.specs.Spells.{Spells, Refuses}
 use Rattle.spec_run_text.specs.Text.{SpellsRun, IsRefused}
 use Rattle.run_replay.specs.Replay.{IsDone, IsFirstRefused, AreFirstViolations}
-use Rattle.verifier_cli.specs.Outcome as own
-use Rattle.verifier_cli.specs.Outcome.{RunRefusal, Faulty, LongRun, Replay, Done, Stuck, Outcome, Replayed, Refused, Run, Memory}
-use Rattle.verifier_cli.specs.Command.{Becomes, IsRefusalOf, refusal_at}
+use Rattle.call_outcomes.specs.Outcome as own
+use Rattle.call_outcomes.specs.Outcome.{RunRefusal, Faulty, LongRun, Replay, Done, Stuck, Outcome, Replayed, Refused, Run, Memory, Becomes}
+use Rattle.verifier_cli.specs.Command.{IsRefusalOf, refusal_at}
 
 -- the bytes, which are not too many, spell the steps of a run
 abbrev pub SpellsSteps : List ℕ → List Step → Type 0

@@ -2,14 +2,15 @@
 use Rattle.std.specs.Prelude.{ℕ, List}
 use Rattle.spec_calculus.specs.Bounds.{most_report_bytes}
 use Rattle.spec_calculus.specs.Syntax as syntax
-use Rattle.hv_io.specs.Place.{line_at}
 use Rattle.spec_certificate_text.specs.Terms as report
+use Rattle.hv_io.specs.Place.{line_at}
+use Rattle.protocol_loading.specs.declared.loading.Unloaded.{Unloaded}
+use Rattle.protocol_loading.specs.declared.loading.Unloaded.TheVariants as unloaded
+use Rattle.protocol_loading.specs.Outside.{Outside}
 use Rattle.fact_reader.specs.declared.error.CertError.{CertError}
 use Rattle.fact_reader.specs.declared.error.CertError.TheVariants as error
-use Rattle.verifier_cli.specs.declared.loading.Unloaded.{Unloaded}
-use Rattle.verifier_cli.specs.declared.loading.Unloaded.TheVariants as unloaded
-use Rattle.verifier_cli.specs.Outcome.{Misspelled, LongReport, Report, Outcome, Refused, ReadFault, Memory}
-use Rattle.verifier_cli.specs.Outside.{Outside, IfRead}
+use Rattle.call_outcomes.specs.Outcome.{Misspelled, LongReport, Report, Outcome, Refused, ReadFault, Memory}
+use Rattle.verifier_cli.specs.Unread.{IfRead}
 use Rattle.verifier_cli.specs.Checking.{RefusesReport}
 
 -- a call whose report could not be loaded

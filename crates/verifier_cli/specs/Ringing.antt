@@ -2,11 +2,11 @@
 use Rattle.std.specs.Prelude.{◌≡◌, ℕ, [], ◌∷◌, length}
 use Rattle.spec_calculus.specs.Syntax as syntax
 use Rattle.spec_protocol_scope.specs.Spells.{Spells}
+use Rattle.spec_ring_text.specs.Text.{ring_text}
 use Rattle.spec_translation.specs.Translation.{Translated, Clauses, LargeAt, IsTranslation}
 use Rattle.query_verify.specs.Told.{IsAnswer}
-use Rattle.spec_ring_text.specs.Text.{ring_text}
-use Rattle.verifier_cli.specs.declared.outcome.Ring.{Ring as Summary}
-use Rattle.verifier_cli.specs.Outcome.{Outcome, Ring, Memory}
+use Rattle.call_outcomes.specs.declared.outcome.Ring.{Ring as Summary}
+use Rattle.call_outcomes.specs.Outcome.{Outcome, Ring, Memory}
 use Rattle.verifier_cli.specs.Command.{NoneViolated, AttacksViolate}
 
 -- how many clauses a translation has: none where it is large

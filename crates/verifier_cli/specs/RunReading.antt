@@ -2,12 +2,13 @@
 use Rattle.std.specs.Prelude.{ℕ, List}
 use Rattle.spec_calculus.specs.Bounds.{most_run_bytes}
 use Rattle.spec_run_text.specs.Faults as run
+use Rattle.protocol_loading.specs.declared.loading.Unloaded.{Unloaded}
+use Rattle.protocol_loading.specs.declared.loading.Unloaded.TheVariants as unloaded
+use Rattle.protocol_loading.specs.Outside.{Outside}
 use Rattle.run_replay.specs.declared.error.RunError.{RunError}
 use Rattle.run_replay.specs.declared.error.RunError.TheVariants as error
-use Rattle.verifier_cli.specs.declared.loading.Unloaded.{Unloaded}
-use Rattle.verifier_cli.specs.declared.loading.Unloaded.TheVariants as unloaded
-use Rattle.verifier_cli.specs.Outcome.{Faulty, LongRun, Run, Outcome, Refused, ReadFault, Memory}
-use Rattle.verifier_cli.specs.Outside.{Outside, IfRead}
+use Rattle.call_outcomes.specs.Outcome.{Faulty, LongRun, Run, Outcome, Refused, ReadFault, Memory}
+use Rattle.verifier_cli.specs.Unread.{IfRead}
 use Rattle.verifier_cli.specs.Replaying.{RefusesRun}
 
 -- a call whose run could not be loaded

@@ -1,36 +1,28 @@
 //! The call that the program makes: words and a file in, an answer and its text out.
 
-ghost use Rattle.std.specs.Prelude.{◌≡◌, ◌≢◌, ◌≤◌, ◌⊎◌, ℕ, List, None, map, option_map};
-ghost use Rattle.pi_tree.specs.Protocols.{protocol_of};
+ghost use Rattle.std.specs.Prelude.{◌≡◌, ◌≢◌, ◌≤◌, ◌⊎◌, ℕ, List, None, map};
 ghost use Rattle.std.specs.String.{string_bytes};
 ghost use Rattle.hv_io.specs.Faults.{IsFaultCounted};
-ghost use Rattle.hv_io.specs.Sink.{appended, AppendsPart};
 ghost use Rattle.command_words.specs.Request as request;
 ghost use Rattle.command_words.specs.Request.{request_seen};
-ghost use Rattle.verifier_cli.specs.Command.{Asks, Becomes, IsAskable, IsNoCommand};
-ghost use Rattle.verifier_cli.specs.Listing.{words_of};
-ghost use Rattle.verifier_cli.specs.Outcome as own;
-ghost use Rattle.verifier_cli.specs.Outside.{outside};
-ghost use Rattle.verifier_cli.specs.SeenOutcome.{outcome_of};
-ghost use Rattle.verifier_cli.specs.Text.{HasText, outcome_bytes, status_of};
-ghost use Rattle.verifier_cli.specs.World.{ComesTo, IsWritten, World, format_of};
+ghost use Rattle.protocol_loading.specs.Outside.{outside};
+ghost use Rattle.call_outcomes.specs.Outcome as own;
+ghost use Rattle.call_outcomes.specs.Outcome.{Becomes};
+ghost use Rattle.call_outcomes.specs.SeenOutcome.{outcome_of};
+ghost use Rattle.call_outcomes.specs.Text.{outcome_bytes, status_of};
+ghost use Rattle.call_outcomes.specs.Writing.{IsWritten};
+ghost use Rattle.verifier_cli.specs.Command.{IsAskable};
+ghost use Rattle.verifier_cli.specs.Words.{Asks, IsNoCommand};
+ghost use Rattle.verifier_cli.specs.World.{World, format_of};
 
-use crate::check::check_file;
-use crate::list::list_file;
-use crate::outcome::{Answer, Decision, Outcome};
+use crate::deciding::decide;
+use crate::decision::Decision;
 use crate::read_back::verdicts_are_read_back;
-use crate::replay::replay_file;
-use crate::ringing::ring;
-use crate::text::{READ_FAULT, USAGE, WANT_OF_MEMORY, outcome_text, status};
-use crate::verify::verify_file;
+use call_outcomes::{Answer, Outcome, USAGE, WANT_OF_MEMORY, finish, respond};
 use command_words::laws::{asked_budgets, asked_formats, asked_stages};
 use command_words::{Request, read_words};
-use hv_io::{Files, Sink, put_all};
-use pi_tree::Protocol;
+use hv_io::{Files, Sink};
 use std::alloc::Global;
-
-/// The status of a call whose text could not all be written.
-const NOT_WRITTEN: u8 = 6;
 
 /// The format of certificates of a request that prints none.
 const NO_CERTIFICATES: u8 = 1;
@@ -44,83 +36,6 @@ fn format_of(asked: Request<'_>) -> u8
     match asked {
         Request::Verify { format, .. } => format as u8,
         _ => NO_CERTIFICATES,
-    }
-}
-
-/// What is asked, and the files that it names, come to.
-fn decide<F: Files>(alloc: Global, asked: Request<'_>, files: &mut F) -> Decision
-    requires { IsAskable (request_seen asked) }
-    ensures held_stays { (name : List ℕ) → F.held files.new name ≡ F.held files.old name }
-    ensures read_faults_rise { (name : List ℕ) →
-        F.faults files.old name ≤ F.faults files.new name }
-    ensures words { HasText (option_map protocol_of result.protocol)
-        (outcome_of result.outcome) }
-    ensures comes { ComesTo (request_seen asked.entry)
-        (outside F.held F.faults F.loads files.old files.new)
-        (option_map protocol_of result.protocol) (outcome_of result.outcome) }
-{
-    match asked {
-        Request::Verify { file, budget, .. } => verify_file(alloc, file, budget, files),
-        Request::List { file, query } => list_file(alloc, file, query, files),
-        Request::Check { file, report } => Decision {
-            protocol: None,
-            outcome: check_file(alloc, file, report, files),
-        },
-        Request::Replay { file, run } => Decision {
-            protocol: None,
-            outcome: replay_file(alloc, file, run, files),
-        },
-        Request::Ring { stages } => ring(alloc, stages),
-    }
-}
-
-/// Writes a text, and answers with the outcome and its status, or with 6 where a part could not be written.
-fn finish<S: Sink>(outcome: Outcome, text: &[u8], out: &mut S) -> Answer
-    ensures outcome { result.outcome ≡ outcome }
-    ensures faults_rise { S.faults out.old ≤ S.faults out.new }
-    ensures fault { result.status ≡ 6 → IsFaultCounted (S.faults out.old) (S.faults out.new) }
-    ensures status { result.status ≢ 6 → result.status ≡ status_of (outcome_of outcome) }
-    ensures whole { result.status ≢ 6 → S.written out.new ≡ appended (S.written out.old) text.now }
-    ensures part { result.status ≡ 6 →
-        AppendsPart (S.written out.old) (S.written out.new) text.now }
-{
-    let status = match put_all(out, text) {
-        Ok(()) => status(&outcome),
-        Err(_) => NOT_WRITTEN,
-    };
-    Answer { status, outcome }
-}
-
-/// Makes an outcome's text and writes it. The text of `Usage`, `ReadFault` and `Memory` takes no memory; in place of another
-/// outcome `Memory` may come.
-fn respond<S: Sink>(
-    alloc: Global,
-    protocol: Option<&Protocol>,
-    outcome: Outcome,
-    format: u8,
-    out: &mut S,
-) -> Answer
-    requires words { HasText (words_of protocol) (outcome_of outcome) }
-    requires format { (format ≡ 1) ⊎ (format ≡ 2) }
-    ensures outcome { Becomes (outcome_of outcome) (outcome_of result.outcome) }
-    ensures words { HasText (words_of protocol.entry) (outcome_of result.outcome) }
-    ensures faults_rise { S.faults out.old ≤ S.faults out.new }
-    ensures fault { result.status ≡ 6 → IsFaultCounted (S.faults out.old) (S.faults out.new) }
-    ensures status { result.status ≢ 6 → result.status ≡ status_of (outcome_of result.outcome) }
-    ensures written { IsWritten result.status (S.written out.old) (S.written out.new)
-        (outcome_bytes format (words_of protocol.entry) (outcome_of result.outcome)) }
-{
-    match outcome {
-        Outcome::Usage => finish(outcome, USAGE, out),
-        Outcome::ReadFault => finish(outcome, READ_FAULT, out),
-        Outcome::Memory => finish(outcome, WANT_OF_MEMORY, out),
-        _ => match outcome_text(alloc, protocol, &outcome, format) {
-            Ok(text) => finish(outcome, &text, out),
-            Err(_) => {
-                drop(outcome);
-                finish(Outcome::Memory, WANT_OF_MEMORY, out)
-            }
-        },
     }
 }
 

@@ -5,23 +5,20 @@
 
 mod call;
 mod check;
-mod codes;
+mod deciding;
+mod decision;
 mod list;
 mod loading;
-mod outcome;
 mod read_back;
-mod reading;
 mod replay;
 mod ringing;
-mod summary;
-mod text;
 mod verify;
 
 pub use crate::call::top;
-pub use crate::outcome::{
-    Answer, Finding, Findings, Outcome, ProtocolCode, Refusal, ReportCode, Ring, RunCode,
+pub use call_outcomes::{
+    Answer, Finding, Findings, Outcome, Refusal, ReportCode, Ring, RunCode, outcome_text, status,
 };
-pub use crate::text::{outcome_text, status};
 pub use cert_checker::Ruling;
+pub use protocol_loading::ProtocolCode;
 pub use query_verify::{Verdict, Verdicts, verdicts};
 pub use ring_writer::make_ring;

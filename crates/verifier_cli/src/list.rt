@@ -1,19 +1,20 @@
 //! The command `list`: the clauses that a protocol and a query are translated into.
 
 ghost use Rattle.std.specs.Prelude.{◌≡◌, ◌↔◌, ◌<◌, ◌≤◌, ℕ, List, length, map, true, option_map, IfOk};
-ghost use Rattle.pi_tree.specs.Protocols.{protocol_of};
-ghost use Rattle.run_replay.specs.Limits.{IsLimited};
 ghost use Rattle.command_words.specs.Request as request;
+ghost use Rattle.pi_tree.specs.Protocols.{protocol_of};
+ghost use Rattle.protocol_loading.specs.Loaded.{IsLoaded};
+ghost use Rattle.protocol_loading.specs.Outside.{outside};
 ghost use Rattle.clause_form.specs.Seen.{clause_at, AreClausesIn};
+ghost use Rattle.run_replay.specs.Limits.{IsLimited};
+ghost use Rattle.call_outcomes.specs.SeenOutcome.{outcome_of};
+ghost use Rattle.call_outcomes.specs.Text.{HasText};
 ghost use Rattle.verifier_cli.specs.Listing.{IsListOf};
-ghost use Rattle.verifier_cli.specs.Loaded.{IsLoaded};
-ghost use Rattle.verifier_cli.specs.Outside.{outside};
-ghost use Rattle.verifier_cli.specs.SeenOutcome.{outcome_of};
-ghost use Rattle.verifier_cli.specs.Text.{HasText};
-ghost use Rattle.verifier_cli.specs.World.{ComesTo};
+ghost use Rattle.verifier_cli.specs.Requests.{ComesTo};
 
+use crate::decision::Decision;
 use crate::loading::load_protocol;
-use crate::outcome::{Decision, Outcome};
+use call_outcomes::Outcome;
 use cert_form::{PlainClauses, read_clauses};
 use clause_form::Clauses;
 use clause_translate::{Translated, translate};
@@ -32,6 +33,24 @@ fn read_all<B: Bank>(alloc: Global, bank: &B, clauses: &Clauses) -> Result<Plain
     read_clauses(alloc, bank, &clauses.items)
 }
 
+/// The translation of the protocol and its query of that number, made in a bank.
+fn translated_in<B: Bank>(
+    alloc: Global,
+    bank: &mut B,
+    protocol: &Protocol,
+    query: u32,
+) -> Result<Outcome, AllocError>
+    requires loaded { IsLoaded (protocol_of protocol.now) }
+    requires there { (0 < query) × (query ≤ length protocol.now.queries) }
+    ensures { IfOk result (λ outcome. IsListOf (protocol_of protocol.now) query
+        (outcome_of outcome)) }
+{
+    match translate(alloc, bank, protocol, query)? {
+        Translated::Clauses(clauses) => Ok(Outcome::Listed(read_all(alloc, bank, &clauses)?)),
+        Translated::Large(point) => Ok(Outcome::ListLarge(point)),
+    }
+}
+
 /// The translation of the protocol and its query of that number.
 fn translated(alloc: Global, protocol: &Protocol, query: u32) -> Result<Outcome, AllocError>
     requires loaded { IsLoaded (protocol_of protocol.now) }
@@ -40,10 +59,7 @@ fn translated(alloc: Global, protocol: &Protocol, query: u32) -> Result<Outcome,
         (outcome_of outcome)) }
 {
     let mut bank = SharedBank::new(alloc)?;
-    match translate(alloc, &mut bank, protocol, query)? {
-        Translated::Clauses(clauses) => Ok(Outcome::Listed(read_all(alloc, &bank, &clauses)?)),
-        Translated::Large(point) => Ok(Outcome::ListLarge(point)),
-    }
+    translated_in(alloc, &mut bank, protocol, query)
 }
 
 /// Whether the protocol has a query of that number.

@@ -1,110 +1,44 @@
-//! Loading the whole text of a file, and the protocol that it spells.
+//! The protocol of a command, or what the command comes to without one.
 
-ghost use Rattle.std.specs.Prelude.{◌≡◌, ◌-◌, ◌^◌, ◌<◌, ◌≤◌, ℕ, List, length, vec_len, IfOk, IfErr};
+ghost use Rattle.std.specs.Prelude.{◌≡◌, ◌≤◌, ℕ, List, length, IfOk, IfErr};
 ghost use Rattle.spec_calculus.specs.Bounds.{most_bytes};
-ghost use Rattle.pi_tree.specs.Protocols.{protocol_of};
 ghost use Rattle.spec_protocol_scope.specs.Spells.{Spells};
+ghost use Rattle.pi_tree.specs.Protocols.{protocol_of};
+ghost use Rattle.protocol_loading.specs.Loaded.{IsLoaded};
+ghost use Rattle.protocol_loading.specs.Outside.{OfFile, outside};
 ghost use Rattle.run_replay.specs.Limits.{IsLimited};
-ghost use Rattle.verifier_cli.specs.Loaded.{IsLoaded};
-ghost use Rattle.verifier_cli.specs.Outside.{OfFile, outside};
-ghost use Rattle.verifier_cli.specs.Reading.{IsStopOf, IsNoReading, IsNoText, IsUnread, not_loaded};
-ghost use Rattle.verifier_cli.specs.SeenOutcome.{outcome_of};
+ghost use Rattle.call_outcomes.specs.SeenOutcome.{outcome_of};
+ghost use Rattle.verifier_cli.specs.Unread.{IsNoReading, IsUnread, outcome_by};
 
-use crate::outcome::{Outcome, ProtocolCode, Refusal};
-use crate::reading::{Stop, read_protocol};
-use hv_io::{Files, LoadError, place};
-use pi_tree::{MOST_BYTES, Protocol};
-use spec_certificate_text::spelled_protocols_have_names;
-use spec_protocol_scope::{proper_rules, query_leaves, well_scoped, within_limits};
-use spec_protocol_tokens::spans_ascend;
+use call_outcomes::{Outcome, Refusal};
+use hv_io::Files;
+use pi_tree::Protocol;
+use protocol_loading::Unread;
 use std::alloc::Global;
 
-/// Why a text was not loaded.
-#[derive(Clone, Copy)]
-pub enum Unloaded {
-    /// The outside failed.
-    Failed,
-    /// The file has too many bytes.
-    TooLong,
-    /// Want of memory.
-    Memory,
-}
-
-/// All bytes of a file, which may be `most`.
-pub(crate) fn load_text<F: Files>(
-    name: &str,
-    most: usize,
-    files: &mut F,
-) -> Result<Vec<u8>, Unloaded>
-    requires { most < 2 ^ 64 - 1 }
-    ensures held_stays { (any : List ℕ) → F.held files.new any ≡ F.held files.old any }
-    ensures read_faults_rise { (any : List ℕ) → F.faults files.old any ≤ F.faults files.new any }
-    ensures within { IfOk result (λ bytes. vec_len bytes ≤ most) }
-    ensures loaded { IfOk result (λ bytes.
-        OfFile (outside F.held F.faults F.loads files.old files.new) name.now most (λ all.
-        bytes.items ≡ all)) }
-    ensures unloaded { IfErr result (λ why.
-        IsNoText (outside F.held F.faults F.loads files.old files.new) name.now most why) }
-{
-    match files.load(name, most + 1) {
-        Err(LoadError::Failed) => Err(Unloaded::Failed),
-        Err(LoadError::Memory(_)) => Err(Unloaded::Memory),
-        Ok(bytes) => {
-            if bytes.len() > most {
-                Err(Unloaded::TooLong)
-            } else {
-                Ok(bytes)
-            }
-        }
-    }
-}
-
-/// What a call comes to whose protocol could not be loaded.
-fn not_loaded(why: Unloaded) -> Outcome
-    ensures { outcome_of result ≡ not_loaded why }
+/// What a call comes to without a protocol.
+fn unread(why: Unread) -> Outcome
+    ensures { outcome_of result ≡ outcome_by why }
 {
     match why {
-        Unloaded::Failed => Outcome::ReadFault,
-        Unloaded::TooLong => Outcome::Refused(Refusal::Protocol {
-            line: 1,
-            column: 1,
-            code: ProtocolCode::LongFile,
-        }),
-        Unloaded::Memory => Outcome::Memory,
-    }
-}
-
-/// What a call comes to whose protocol could not be read.
-fn not_read(bytes: &[u8], why: Stop) -> Outcome
-    requires { IsStopOf bytes.now why }
-    ensures { IsNoReading bytes.now (outcome_of result) }
-{
-    spans_ascend();
-    match why {
-        Stop::Refused(code, at) => {
-            let (line, column) = place(bytes, at);
+        Unread::Fault => Outcome::ReadFault,
+        Unread::Refused { line, column, code } => {
             Outcome::Refused(Refusal::Protocol { line, column, code })
         }
-        Stop::Memory => Outcome::Memory,
+        Unread::Memory => Outcome::Memory,
     }
 }
 
 /// The protocol that the bytes spell, which are not too many, or what the call comes to where they are refused.
 pub(crate) fn protocol_in(alloc: Global, bytes: &[u8]) -> Result<Protocol, Outcome>
     requires { length bytes.now ≤ most_bytes }
-    ensures limited { IfOk result (λ protocol. IsLimited (protocol_of protocol)) }
     ensures loaded { IfOk result (λ protocol. IsLoaded (protocol_of protocol)) }
     ensures spelled { IfOk result (λ protocol. Spells bytes.now (protocol_of protocol)) }
     ensures unread { IfErr result (λ outcome. IsNoReading bytes.now (outcome_of outcome)) }
 {
-    within_limits();
-    proper_rules();
-    well_scoped();
-    query_leaves();
-    spelled_protocols_have_names();
-    match read_protocol(alloc, bytes) {
+    match protocol_loading::protocol_in(alloc, bytes) {
         Ok(protocol) => Ok(protocol),
-        Err(why) => Err(not_read(bytes, why)),
+        Err(why) => Err(unread(why)),
     }
 }
 
@@ -125,8 +59,8 @@ pub(crate) fn load_protocol<F: Files>(
         IsUnread (outside F.held F.faults F.loads files.old files.new) file.now
         (outcome_of outcome)) }
 {
-    match load_text(file, MOST_BYTES, files) {
-        Err(why) => Err(not_loaded(why)),
-        Ok(bytes) => protocol_in(alloc, &bytes),
+    match protocol_loading::load_protocol(alloc, file, files) {
+        Ok(protocol) => Ok(protocol),
+        Err(why) => Err(unread(why)),
     }
 }

@@ -4,18 +4,20 @@ ghost use Rattle.std.specs.Prelude.{◌≡◌, ◌<◌, ◌≤◌, ◌^◌, ℕ,
 ghost use Rattle.spec_calculus.specs.Bounds.{most_run_bytes};
 ghost use Rattle.command_words.specs.Request as request;
 ghost use Rattle.pi_tree.specs.Protocols.{protocol_of};
+ghost use Rattle.protocol_loading.specs.Outside.{OfFile, outside};
 ghost use Rattle.run_replay.specs.Limits.{IsLimited};
-ghost use Rattle.verifier_cli.specs.Outside.{IfRead, OfFile, outside};
+ghost use Rattle.call_outcomes.specs.SeenOutcome.{outcome_of};
+ghost use Rattle.call_outcomes.specs.Text.{HasText};
+ghost use Rattle.verifier_cli.specs.Unread.{IfRead};
 ghost use Rattle.verifier_cli.specs.Replaying.{SpellsSteps, IsOutcomeOfReplay, RunsOn};
 ghost use Rattle.verifier_cli.specs.RunReading.{run_not_loaded, run_not_read, IsUnreadRun};
-ghost use Rattle.verifier_cli.specs.SeenOutcome.{outcome_of};
-ghost use Rattle.verifier_cli.specs.Text.{HasText};
-ghost use Rattle.verifier_cli.specs.World.{ComesTo};
+ghost use Rattle.verifier_cli.specs.Requests.{ComesTo};
 
-use crate::loading::{Unloaded, load_protocol, load_text};
-use crate::outcome::{Outcome, Refusal, RunCode};
+use crate::loading::load_protocol;
+use call_outcomes::{Outcome, Refusal, RunCode};
 use hv_io::Files;
 use pi_tree::{MOST_RUN_BYTES, Protocol};
+use protocol_loading::{Unloaded, load_text};
 use run_replay::{RunError, Steps, read_run, replay};
 use spec_protocol_scope::{never_both, one_protocol, one_refusal};
 use std::alloc::Global;

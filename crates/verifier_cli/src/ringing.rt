@@ -2,19 +2,24 @@
 
 ghost use Rattle.std.specs.Prelude.{◌≡◌, ◌≤◌, option_map, IfOk, IfSome};
 ghost use Rattle.spec_calculus.specs.Bounds.{most_keys};
-ghost use Rattle.pi_tree.specs.Protocols.{protocol_of};
 ghost use Rattle.spec_protocol_scope.specs.Spells.{Spells};
 ghost use Rattle.spec_ring_text.specs.Meaning.{ring_protocol};
 ghost use Rattle.spec_ring_text.specs.Text.{ring_text};
-ghost use Rattle.verifier_cli.specs.Loaded.{IsLoaded};
+ghost use Rattle.pi_tree.specs.Accessors.{IsThere};
+ghost use Rattle.pi_tree.specs.Protocols.{protocol_of};
+ghost use Rattle.pi_tree.specs.declared.accessors.Kind.TheVariants.{Query as OfQueries};
+ghost use Rattle.protocol_loading.specs.Loaded.{IsLoaded};
+ghost use Rattle.query_derive.specs.GoalRows.{OfQuery};
+ghost use Rattle.query_verify.specs.Told.{IsAnswer};
+ghost use Rattle.call_outcomes.specs.SeenOutcome.{outcome_of};
+ghost use Rattle.call_outcomes.specs.Text.{HasText};
 ghost use Rattle.verifier_cli.specs.Ringing.{IsRingOf, IsSummaryOf, Rings};
-ghost use Rattle.verifier_cli.specs.SeenOutcome.{outcome_of};
-ghost use Rattle.verifier_cli.specs.Text.{HasText};
 
+use crate::decision::Decision;
 use crate::loading::protocol_in;
-use crate::outcome::{Decision, Outcome, Ring};
+use call_outcomes::{Outcome, Ring};
 use pi_tree::Protocol;
-use query_verify::verdict;
+use query_verify::{Verdict, verdict};
 use ring_writer::make_ring;
 use spec_protocol_scope::{never_both, one_protocol, one_refusal};
 use spec_read_protocols::queries_of_read_protocols;
@@ -29,6 +34,17 @@ const BUDGET: u64 = 10_000;
 /// How many clauses the translation of a ring has, beside one for each key.
 const FURTHER_CLAUSES: u64 = 8;
 
+/// The verdict of the first query of the protocol with the budget of rings, over a bank of its own.
+fn first_verdict(alloc: Global, protocol: &Protocol) -> Result<Verdict, AllocError>
+    requires loaded { IsLoaded (protocol_of protocol.now) }
+    requires there { IsThere (protocol_of protocol.now) OfQueries 1 }
+    ensures { let P = protocol_of protocol.now in
+        IfOk result (λ answer. OfQuery P 1 (λ q. IsAnswer P q 10000 answer)) }
+{
+    let mut bank = SharedBank::new(alloc)?;
+    verdict(alloc, &mut bank, protocol, 1, BUDGET)
+}
+
 /// The summary of the ring of so many keys, whose protocol and text these are.
 fn summary(alloc: Global, protocol: &Protocol, stages: u64, text: &[u8]) -> Result<Ring, AllocError>
     requires loaded { IsLoaded (protocol_of protocol.now) }
@@ -39,8 +55,7 @@ fn summary(alloc: Global, protocol: &Protocol, stages: u64, text: &[u8]) -> Resu
     ensures { IfOk result (λ ring. IsSummaryOf (protocol_of protocol.now) stages ring) }
 {
     ring_translations();
-    let mut bank = SharedBank::new(alloc)?;
-    let verdict = verdict(alloc, &mut bank, protocol, 1, BUDGET)?;
+    let verdict = first_verdict(alloc, protocol)?;
     Ok(Ring {
         stages,
         bytes: text.len() as u64,

@@ -1,10 +1,10 @@
 use Rattle.std.proofs.Common.{ℕ, List, ap, option_map}
 use Rattle.command_words.specs.Request.{request_seen}
 use Rattle.pi_tree.specs.Protocols.{protocol_of}
-use Rattle.verifier_cli.specs.Listing.{words_of}
-use Rattle.verifier_cli.specs.Outside.{outside}
-use Rattle.verifier_cli.specs.SeenOutcome.{outcome_of}
-use Rattle.verifier_cli.specs.World.{IsWritten}
+use Rattle.protocol_loading.specs.Outside.{outside}
+use Rattle.call_outcomes.specs.Text.{words_of}
+use Rattle.call_outcomes.specs.SeenOutcome.{outcome_of}
+use Rattle.call_outcomes.specs.Writing.{IsWritten}
 use Rattle.verifier_cli.proofs.World.{world_of}
 use Rattle.verifier_cli.proofs.call.answer.Goals as goal
 

@@ -1,11 +1,13 @@
 use Rattle.std.proofs.Common.{◌≡◌, ℕ, List, Some, None, map, refl, sym, ap, ◌∙◌, option_map}
 use Rattle.std.specs.String.{string_bytes}
 use Rattle.command_words.specs.Request.{request_of, request_seen}
-use Rattle.verifier_cli.specs.Outside.{outside}
-use Rattle.verifier_cli.specs.SeenOutcome.{outcome_of}
-use Rattle.verifier_cli.specs.World.{IsWritten, World, format_of}
-use Rattle.verifier_cli.specs.declared.outcome.Outcome.TheVariants.{Usage, Memory}
-use Rattle.verifier_cli.proofs.World.{AskedNumbers, askable, as_asked, a_command, never_for_nothing, written_of, memory_world}
+use Rattle.protocol_loading.specs.Outside.{outside}
+use Rattle.call_outcomes.specs.SeenOutcome.{outcome_of}
+use Rattle.call_outcomes.specs.declared.outcome.Outcome.TheVariants.{Usage, Memory}
+use Rattle.call_outcomes.specs.Writing.{IsWritten}
+use Rattle.call_outcomes.proofs.Written.{written_of}
+use Rattle.verifier_cli.specs.World.{World, format_of}
+use Rattle.verifier_cli.proofs.World.{AskedNumbers, askable, as_asked, a_command, never_for_nothing, memory_world}
 use Rattle.verifier_cli.proofs.call.top.Goals as goal
 
 pub answer-requires : goal.answer-requires

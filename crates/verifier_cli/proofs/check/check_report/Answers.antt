@@ -1,11 +1,12 @@
 use Rattle.std.proofs.Common.{inl, map}
 use Rattle.pi_tree.specs.Protocols.{protocol_of}
+use Rattle.protocol_loading.proofs.Files.{of_file}
 use Rattle.cert_text.specs.Seen.{shared_claim_of}
+use Rattle.call_outcomes.specs.SeenOutcome.{outcome_of}
 use Rattle.verifier_cli.specs.Checking.{ChecksReport, MakesClaims}
 use Rattle.verifier_cli.specs.ReportReading.{IsNoReport}
-use Rattle.verifier_cli.specs.SeenOutcome.{outcome_of}
 use Rattle.verifier_cli.proofs.Checking.{ReportLaws, claims_check, no_report_checks}
-use Rattle.verifier_cli.proofs.Files.{if_read, of_file}
+use Rattle.verifier_cli.proofs.Files.{if_read}
 use Rattle.verifier_cli.proofs.Limits.{short_queries}
 use Rattle.verifier_cli.proofs.check.check_report.Goals as goal
 

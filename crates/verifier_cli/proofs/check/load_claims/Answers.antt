@@ -2,18 +2,19 @@
 use Rattle.std.proofs.Common.{◌≡◌, ◌∙◌, ◌≤◌, ℕ, List, length, map, inl, sym, ap, subst, arith}
 use Rattle.std.proofs.lemmas.List.{length-map}
 use Rattle.spec_calculus.specs.Bounds.{most_report_bytes}
-use Rattle.pi_tree.specs.Protocols.{protocol_of}
 use Rattle.spec_node_reading.specs.Reports.{SpellsReport, reports_of_both}
+use Rattle.pi_tree.specs.Protocols.{protocol_of}
+use Rattle.protocol_loading.specs.Outside.{outside}
+use Rattle.protocol_loading.proofs.Files.{of_all}
 use Rattle.fact_reader.specs.Errors.{refusal_of}
 use Rattle.cert_text.specs.Seen.{shared_claim_of}
 use Rattle.cert_text.specs.Refused.{IsFirstOf}
+use Rattle.call_outcomes.specs.Outcome.{Outcome}
+use Rattle.call_outcomes.specs.SeenOutcome.{outcome_of}
 use Rattle.verifier_cli.specs.Checking.{MakesClaims}
-use Rattle.verifier_cli.specs.Outcome.{Outcome}
-use Rattle.verifier_cli.specs.Outside.{outside}
 use Rattle.verifier_cli.specs.ReportReading.{report_not_read, IsNoReport, IsUnreadReport}
-use Rattle.verifier_cli.specs.SeenOutcome.{outcome_of}
 use Rattle.verifier_cli.proofs.Checking.{fault_unread}
-use Rattle.verifier_cli.proofs.Files.{no_report, of_all}
+use Rattle.verifier_cli.proofs.Files.{no_report}
 use Rattle.verifier_cli.proofs.Limits.{few_names}
 use Rattle.verifier_cli.proofs.check.load_claims.Goals as goal
 

@@ -1,11 +1,10 @@
--- A protocol that is spelled is within the limits.
-use Rattle.verifier_cli.proofs.Limits.{limited}
+-- What is not read is what the call comes to.
+use Rattle.std.proofs.Common.{sym, subst}
+use Rattle.call_outcomes.specs.Outcome.{Outcome}
+use Rattle.verifier_cli.specs.Unread.{IsNoReading}
+use Rattle.verifier_cli.proofs.Files.{no_reading}
 use Rattle.verifier_cli.proofs.loading.protocol_in.Goals as goal
 
-pub returns-in-Ok-clause-limited : goal.returns-in-Ok-clause-limited
-returns-in-Ok-clause-limited c = limited _ (c.within_limits.ensures _ _ c.in-Ok.ensures.spelled)
-
-pub returns-in-Ok-clause-loaded : goal.returns-in-Ok-clause-loaded
-returns-in-Ok-clause-loaded c =
-    let spelled = c.in-Ok.ensures.spelled in
-    record { limits = c.within_limits.ensures _ _ spelled; rules = c.proper_rules.ensures _ _ spelled; scoped = c.well_scoped.ensures _ _ spelled; queries = c.query_leaves.ensures _ _ spelled; names = c.spelled_protocols_have_names.ensures _ _ spelled }
+pub returns-in-Err-clause-unread : goal.returns-in-Err-clause-unread
+returns-in-Err-clause-unread c =
+    subst (λ (outcome : Outcome). IsNoReading c.args.bytes.now outcome) (sym c.unread.ensures) (no_reading c.args.bytes.now _ c.in-Err.ensures.unread)

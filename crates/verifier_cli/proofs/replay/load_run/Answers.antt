@@ -2,12 +2,13 @@
 use Rattle.std.proofs.Common.{◌≤◌, ℕ, List, length, inl, sym, ap, subst, arith}
 use Rattle.spec_calculus.specs.Bounds.{most_run_bytes}
 use Rattle.spec_run_text.specs.Text.{SpellsRun}
+use Rattle.protocol_loading.specs.Outside.{outside}
+use Rattle.protocol_loading.proofs.Files.{of_all}
 use Rattle.run_replay.specs.Answer.{IsRefusalOf}
-use Rattle.verifier_cli.specs.Outcome.{Outcome}
-use Rattle.verifier_cli.specs.Outside.{outside}
+use Rattle.call_outcomes.specs.Outcome.{Outcome}
 use Rattle.verifier_cli.specs.Replaying.{SpellsSteps}
 use Rattle.verifier_cli.specs.RunReading.{run_not_read, IsNoRun, IsUnreadRun}
-use Rattle.verifier_cli.proofs.Files.{no_run, of_all}
+use Rattle.verifier_cli.proofs.Files.{no_run}
 use Rattle.verifier_cli.proofs.Replaying.{fault_no_run}
 use Rattle.verifier_cli.proofs.replay.load_run.Goals as goal
 

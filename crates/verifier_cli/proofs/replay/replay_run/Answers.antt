@@ -1,9 +1,10 @@
 use Rattle.std.proofs.Common.{inl}
 use Rattle.pi_tree.specs.Protocols.{protocol_of}
+use Rattle.protocol_loading.proofs.Files.{of_file}
+use Rattle.call_outcomes.specs.SeenOutcome.{outcome_of}
 use Rattle.verifier_cli.specs.Replaying.{SpellsSteps, RunsOn}
 use Rattle.verifier_cli.specs.RunReading.{IsNoRun}
-use Rattle.verifier_cli.specs.SeenOutcome.{outcome_of}
-use Rattle.verifier_cli.proofs.Files.{if_read, of_file}
+use Rattle.verifier_cli.proofs.Files.{if_read}
 use Rattle.verifier_cli.proofs.Replaying.{RunLaws, no_run_runs, replay_runs}
 use Rattle.verifier_cli.proofs.replay.replay_run.Goals as goal
 

@@ -4,9 +4,9 @@ use Rattle.pi_tree.specs.Protocols.{protocol_of}
 use Rattle.verifier_cli.proofs.Rings.{only_there, summary_said}
 use Rattle.verifier_cli.proofs.ringing.summary.Goals as goal
 
-pub verdict-requires-clause-there : goal.verdict-requires-clause-there
-verdict-requires-clause-there c = only_there (protocol_of c.args.protocol.now) c.args.stages c.requires.ring
+pub first_verdict-requires-clause-there : goal.first_verdict-requires-clause-there
+first_verdict-requires-clause-there c = only_there (protocol_of c.args.protocol.now) c.args.stages c.requires.ring
 
 pub returns : goal.returns
 returns c =
-    summary_said (protocol_of c.args.protocol.now) c.args.stages _ c.requires.ring (c.ring_translations.ensures c.args.stages c.requires.least (omega (arith, c.requires.most))) refl (ap length c.requires.text) refl c.in_ok-verdict.ensures.answers
+    summary_said (protocol_of c.args.protocol.now) c.args.stages _ c.requires.ring (c.ring_translations.ensures c.args.stages c.requires.least (omega (arith, c.requires.most))) refl (ap length c.requires.text) refl c.in_ok-verdict.ensures

@@ -1,10 +1,10 @@
 use Rattle.std.proofs.Common.{sym, subst}
-use Rattle.pi_tree.specs.Protocols.{protocol_of}
 use Rattle.spec_protocol_scope.specs.Spells.{Spells}
 use Rattle.spec_ring_text.specs.Meaning.{ring_protocol}
-use Rattle.verifier_cli.specs.Outcome.{Outcome}
+use Rattle.pi_tree.specs.Protocols.{protocol_of}
+use Rattle.call_outcomes.specs.Outcome.{Outcome}
+use Rattle.call_outcomes.specs.SeenOutcome.{outcome_of}
 use Rattle.verifier_cli.specs.Ringing.{Rings}
-use Rattle.verifier_cli.specs.SeenOutcome.{outcome_of}
 use Rattle.verifier_cli.proofs.Verifying.{Laws, Soundness}
 use Rattle.verifier_cli.proofs.Rings.{memory_rings, ring_said, unread_is_memory}
 use Rattle.verifier_cli.proofs.ringing.verify_ring.Goals as goal

@@ -1,0 +1,3 @@
+mod Lines
+mod Puts
+pub mod Written

@@ -1,0 +1,6 @@
+use Rattle.std.proofs.Common.{arith}
+use Rattle.std.proofs.lemmas.Grind.{common_steps}
+use Rattle.call_outcomes.proofs.text.are_unviolated.Goals as goal
+
+pub loop-first-preserved : goal.loop-first-preserved
+loop-first-preserved c = grind (arith, common_steps)

@@ -1,0 +1,4 @@
+pub mod Codes
+pub mod Loaded
+pub mod Outside
+pub mod Reading

@@ -1,8 +1,0 @@
--- Each finding so far is that its certificate is accepted.
-use Rattle.std.proofs.Common.{◌≡◌, drop}
-use Rattle.std.specs.List.{list_all}
-use Rattle.verifier_cli.specs.Text.{is_accepted}
-use Rattle.verifier_cli.proofs.text.are_accepted.Given as goal
-
-abbrev pub invariant-loop-finding : goal.invariant-loop-finding
-invariant-loop-finding l = list_all is_accepted (drop l.finding-index l.finding-items) ≡ list_all is_accepted l.finding-items
