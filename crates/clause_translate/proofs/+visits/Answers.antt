@@ -1,4 +1,5 @@
 use Rattle.std.proofs.Common.{◌≡◌, ℕ, suc, ◌+◌, ◌-◌, ◌<◌, ◌≤◌, true, false, Option, Some, None, List, [], map, length, take, drop, refl, ap, sym, subst, ◌∙◌, arith, ◌∷◌}
+use Rattle.std.proofs.lemmas.Grind.{common_steps}
 use Rattle.std.specs.Prelude.{IfOk, IfSome, MatchOption, MatchBool}
 use Rattle.spec_calculus.specs.Syntax as calculus
 use Rattle.pi_tree.specs.declared.syntax.Process.{Process}
@@ -1550,3 +1551,9 @@ branches::visit_get-returns-then-is_large-clause-tells g t c = tt
 
 pub branches::visit_get-returns-in-Some-clause-tells : goal.branches::visit_get-returns-in-Some-clause-tells
 branches::visit_get-returns-in-Some-clause-tells g t c = tt
+
+pub branches::visit_choices-returns-in_err-label-clause-grows : goal.branches::visit_choices-returns-in_err-label-clause-grows
+branches::visit_choices-returns-in_err-label-clause-grows g t c = grind (arith, common_steps)
+
+pub branches::visit_let-invariant_of-choosing : goal.branches::visit_let-invariant_of-choosing
+branches::visit_let-invariant_of-choosing g t c = grind (arith, common_steps)

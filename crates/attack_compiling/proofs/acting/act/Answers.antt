@@ -1,4 +1,5 @@
 use Rattle.std.proofs.Common.{◌≡◌, ℕ, ◌<◌, List, length, slice_get, take, map, Some, sym, ap, ◌∙◌, subst, refl, arith}
+use Rattle.std.proofs.lemmas.Grind.{common_steps}
 use Rattle.std.proofs.lemmas.List.{length-map}
 use borrow.Author.Tests.{ltb-true, ltb-false}
 use Rattle.spec_calculus.specs.Runs.{Split, Miss}
@@ -130,3 +131,27 @@ returns-in-Some-Taken-clause-does c = λ st is.
     ∙ (ap (λ (ts : List Term). fetches P walk.point w table (Taken label) ts st) are
     ∙ ap (λ (p : MadeProcess). fetches_at P (process_of p) walk.point w (map (tree_at all) ids) st) (sym c.in-Get.is)) in
     node_as route walk all st _ c.in-Get.is all (fetches_at P (process_of walk.process.now) walk.point w (map (tree_at all) ids)) st same c.fetch.new.state c.fetch.result (c.fetch.ensures.does st is)
+
+pub returns-in-Insert-clause-does : goal.returns-in-Insert-clause-does
+returns-in-Insert-clause-does c = grind (arith, common_steps)
+
+pub returns-in-Event-clause-does : goal.returns-in-Event-clause-does
+returns-in-Event-clause-does c = grind (arith, common_steps)
+
+pub returns-in-Copies-clause-does : goal.returns-in-Copies-clause-does
+returns-in-Copies-clause-does c = grind (arith, common_steps)
+
+pub returns-in-Phase-clause-does : goal.returns-in-Phase-clause-does
+returns-in-Phase-clause-does c = grind (arith, common_steps)
+
+pub returns-in-Nil-clause-does : goal.returns-in-Nil-clause-does
+returns-in-Nil-clause-does c = grind (arith, common_steps)
+
+pub returns-in-Some-Else-clause-grows : goal.returns-in-Some-Else-clause-grows
+returns-in-Some-Else-clause-grows c = grind (arith, common_steps)
+
+pub returns-in-Some-Taken-clause-grows : goal.returns-in-Some-Taken-clause-grows
+returns-in-Some-Taken-clause-grows c = grind (arith, common_steps)
+
+pub returns-in-Some-clause-grows : goal.returns-in-Some-clause-grows
+returns-in-Some-clause-grows c = grind (arith, common_steps)

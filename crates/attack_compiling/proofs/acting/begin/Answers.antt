@@ -1,4 +1,5 @@
 use Rattle.std.proofs.Common.{Bool, ◌-◌, arith, subst}
+use Rattle.std.proofs.lemmas.Grind.{common_steps}
 use Rattle.spec_calculus.specs.Runs.{Next}
 use Rattle.spec_attack_runs.specs.Compiling.{take_step}
 use Rattle.attack_state.specs.Outcomes.{GoesOn}
@@ -24,3 +25,9 @@ each-preserved c =
           begun_more P all (c.args.number - st.configuration.phase) st c.each.left (c.each.left - 1) c.each.state c.take_step.new.self (omega arith) so_far
           (done_where (take_step P Next) so_far.next all c.take_step.new.self c.in_ok-take_step.field-0 c.if-not-branch.false (c.in_ok-take_step.ensures.does all so_far.next so_far.is));
     }
+
+pub each-init : goal.each-init
+each-init c = grind (arith, common_steps)
+
+pub returns-clause-does : goal.returns-clause-does
+returns-clause-does c = grind (arith, common_steps)

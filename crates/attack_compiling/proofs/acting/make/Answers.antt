@@ -1,4 +1,5 @@
-use Rattle.std.proofs.Common.{◌≡◌, List, [], ◌∷◌, ◌++◌, take, map, rules, sym, ap, ◌∙◌, subst}
+use Rattle.std.proofs.Common.{◌≡◌, List, [], ◌∷◌, ◌++◌, take, map, rules, sym, ap, ◌∙◌, subst, arith}
+use Rattle.std.proofs.lemmas.Grind.{common_steps}
 use Rattle.spec_trees.specs.Tree.{Leaf, node}
 use Rattle.spec_calculus.specs.Values.{MadeName}
 use Rattle.spec_calculus.specs.Runs.{Configuration, Make}
@@ -58,3 +59,15 @@ returns-clause-does c = λ st is.
       is = state_named new c.acts_at.new.state c.push.new.self did.next (record { term = c.in_ok-term.term; value = Made walk.point c.args.state.now.conf.next }) (record { term = name_term walk.point w.received w.copied; value = Leaf (MadeName walk.point st.configuration.next) })
           (state-grows all new c.acts_at.new.state did.next c.app.ensures.grows did.is) c.in_ok-push.ensures.items (c.in_ok-push.ensures.listed did.is.names_listed) named;
     }
+
+pub returns-clause-run : goal.returns-clause-run
+returns-clause-run c = grind (arith, common_steps)
+
+pub returns-in_err-extend_from_slice-clause-grows : goal.returns-in_err-extend_from_slice-clause-grows
+returns-in_err-extend_from_slice-clause-grows c = grind (arith, common_steps)
+
+pub returns-in_err-arguments-clause-grows : goal.returns-in_err-arguments-clause-grows
+returns-in_err-arguments-clause-grows c = grind (arith, common_steps)
+
+pub returns-in_err-acts_at-clause-grows : goal.returns-in_err-acts_at-clause-grows
+returns-in_err-acts_at-clause-grows c = grind (arith, common_steps)

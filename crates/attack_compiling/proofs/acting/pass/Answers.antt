@@ -1,4 +1,5 @@
-use Rattle.std.proofs.Common.{◌≡◌, ℕ, not, nat_eq, List, Some, filter, rules, ap, ◌∙◌}
+use Rattle.std.proofs.Common.{◌≡◌, ℕ, not, nat_eq, List, Some, filter, rules, ap, ◌∙◌, arith}
+use Rattle.std.proofs.lemmas.Grind.{common_steps}
 use Rattle.std.proofs.lemmas.Fn.{filter_same}
 use Rattle.std.specs.List.{find}
 use Rattle.spec_calculus.specs.Runs.{Pass}
@@ -26,3 +27,6 @@ returns-in-Some-clause-does c = λ all st is.
     let found : Some sender ≡ find (offers P conf channel message) st.waiting = c.in-Some.ensures ∙ ap (find (offers P conf channel message)) is.waiting in
     result_as (acts_at P walk.point w (Pass sender walk.thread)) (passed P walk.point w channel message) (record st { waiting = waits }) st (passed_by P walk.point w channel message st conf sender is.configuration found)
     all c.acts_at.new.state c.acts_at.result (c.acts_at.ensures.does all (record st { waiting = waits }) (state_waits all c.args.state.now c.retain.new.self st waits is are))
+
+pub returns-in-None-clause-does : goal.returns-in-None-clause-does
+returns-in-None-clause-does c = grind (arith, common_steps)

@@ -1,4 +1,5 @@
-use Rattle.std.proofs.Common.{ℕ, Option, subst}
+use Rattle.std.proofs.Common.{ℕ, Option, subst, arith}
+use Rattle.std.proofs.lemmas.Grind.{common_steps}
 use Rattle.spec_calculus.specs.Runs.{Say}
 use Rattle.spec_attack_runs.specs.Compiling.{placed}
 use Rattle.spec_attack_runs.specs.Walking.{acts_at}
@@ -27,3 +28,6 @@ returns-in-Some-clause-does c = λ st is.
     let found = subst (λ (o : Option ℕ). Places (placed P t) st all c.place.new.self o) c.in-Some.is (c.in_ok-place.ensures.places st is) in
     result_as (acts_at P walk.point w (Say walk.thread c.in-Some.place)) (said P walk.point w t) found.next st (said_behind P walk.point w t st found.next c.in-Some.place found.gives)
     all c.acts_at.new.state c.acts_at.result (c.acts_at.ensures.does all found.next found.is)
+
+pub acts_at-requires : goal.acts_at-requires
+acts_at-requires c = grind (arith, common_steps)

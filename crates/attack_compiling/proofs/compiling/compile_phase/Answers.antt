@@ -1,4 +1,5 @@
 use Rattle.std.proofs.Common.{◌≡◌, ◌<◌, Bool, List, [], ◌∷◌, length, get_or, ap, subst, rules, arith}
+use Rattle.std.proofs.lemmas.Grind.{common_steps}
 use Rattle.term_tree.proofs.BankLaws.{Grows_trans}
 use Rattle.pi_tree.specs.Protocols.{protocol_of}
 use Rattle.clause_instances.specs.declared.instance.Instance.{Instance as MadeInstance}
@@ -57,3 +58,15 @@ returns-clause-does c = λ st all is named.
     let items : c.deref-instance-items.result.now ≡ ids = search rules in
     let i = c.each.instance-index in
     compiled_end P c.args.phase all c.each.bank st i c.each.state (nothing_after c.args.bank.now c.args.compilation.now.sources.now ids all i (omega (arith, c.each-test.false, ap length items)) named) (c.each.invariant.so_far st all is named)
+
+pub returns-in_err-compile_at-clause-grows : goal.returns-in_err-compile_at-clause-grows
+returns-in_err-compile_at-clause-grows c = grind (arith, common_steps)
+
+pub returns-then-not-branch-clause-grows : goal.returns-then-not-branch-clause-grows
+returns-then-not-branch-clause-grows c = grind (arith, common_steps)
+
+pub compile_at-requires-clause-known : goal.compile_at-requires-clause-known
+compile_at-requires-clause-known c = grind (arith, common_steps)
+
+pub each-init : goal.each-init
+each-init c = grind (arith, common_steps)

@@ -1,4 +1,5 @@
 use Rattle.std.proofs.Common.{◌≡◌, suc, ◌+◌, Some, length, sym, ap, ◌∙◌, arith}
+use Rattle.std.proofs.lemmas.Grind.{common_steps}
 use borrow.Author.Tests.{ltb-true}
 use Rattle.spec_calculus.specs.Points.{nodes}
 use Rattle.pi_tree.specs.Processes.{process_of}
@@ -41,3 +42,30 @@ returns-in-Some-get c =
           ∙ (copy_spot all route walk (process_of c.in-Copies.process.value) walk.point c.args.other c.in-Some-get.field-0.now found.1 within
           ∙ ap (λ (q : Process). Some (process_of q, walk.point + 1, walk_of all route (record walk { sessions = walk.sessions + 1; thread = c.args.other }))) (sym c.deref-in-Some-get.ensures));
     }
+
+pub returns-else-way-after : goal.returns-else-way-after
+returns-else-way-after c = grind (arith, common_steps)
+
+pub returns-then-way-after : goal.returns-then-way-after
+returns-then-way-after c = grind (arith, common_steps)
+
+pub overflow_add-after : goal.overflow_add-after
+overflow_add-after c = grind (arith, common_steps)
+
+pub branch-route-requires-in-Get-clause-points : goal.branch-route-requires-in-Get-clause-points
+branch-route-requires-in-Get-clause-points c = grind (arith, common_steps)
+
+pub branch-route-requires-clause-points : goal.branch-route-requires-clause-points
+branch-route-requires-clause-points c = grind (arith, common_steps)
+
+pub returns-in-Output : goal.returns-in-Output
+returns-in-Output c = grind (arith, common_steps)
+
+pub returns-in-Get : goal.returns-in-Get
+returns-in-Get c = grind (arith, common_steps)
+
+pub returns-in-None-get : goal.returns-in-None-get
+returns-in-None-get c = grind (arith, common_steps)
+
+pub returns-in-None : goal.returns-in-None
+returns-in-None c = grind (arith, common_steps)

@@ -1,4 +1,5 @@
 use Rattle.std.proofs.Common.{◌≡◌, length, sym, ap, arith}
+use Rattle.std.proofs.lemmas.Grind.{common_steps}
 use Rattle.std.proofs.lemmas.List.{length-map}
 use borrow.Author.Tests.{ltb-true}
 use Rattle.clause_sources.specs.Seen.{choice_of}
@@ -43,3 +44,18 @@ returns-in_ok-entry_node-in-Some-next_choice-2 c = λ all known.
     let counted : c.len-taken.result ≡ length c.in-Get.patterns = omega (arith, c.patterns.inside.items.ok.0, length-map c.patterns.inside.items.items pattern_of, ap length c.patterns.view_is) in
     get_named all c.args.route.now walk c.args.other known c.in_ok-entry_node-in-Some-next_choice-2.field-0 (process_of walk.process.now) _ _ _ _ _ (choice_of c.in-Some-next_choice-2.choice.now) c.len-taken.result
     (ap process_of c.in-Get.is) counted c.in-Some-next_choice-2.ensures.choice (c.in_ok-entry_node-in-Some-next_choice-2.ensures all known)
+
+pub returns-in_ok-plain_node-in-Output : goal.returns-in_ok-plain_node-in-Output
+returns-in_ok-plain_node-in-Output c = grind (arith, common_steps)
+
+pub returns-in_ok-node-in-Par : goal.returns-in_ok-node-in-Par
+returns-in_ok-node-in-Par c = grind (arith, common_steps)
+
+pub returns-in-None-get : goal.returns-in-None-get
+returns-in-None-get c = grind (arith, common_steps)
+
+pub returns-in-None : goal.returns-in-None
+returns-in-None c = grind (arith, common_steps)
+
+pub returns-in-Nil : goal.returns-in-Nil
+returns-in-Nil c = grind (arith, common_steps)

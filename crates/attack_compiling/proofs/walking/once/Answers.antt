@@ -1,4 +1,5 @@
-use Rattle.std.proofs.Common.{◌≡◌, ◌+◌, None, List, [], ◌∷◌, ◌++◌, length, sym, ap, ◌∙◌, subst, rules}
+use Rattle.std.proofs.Common.{◌≡◌, ◌+◌, None, List, [], ◌∷◌, ◌++◌, length, sym, ap, ◌∙◌, subst, rules, arith}
+use Rattle.std.proofs.lemmas.Grind.{common_steps}
 use Rattle.std.specs.List.{find}
 use Rattle.term_tree.specs.declared.bank.Id.{Id}
 use Rattle.clause_form.specs.Seen.{NameTerms}
@@ -103,3 +104,15 @@ returns-clause-passes c = λ st is.
       is = state_done new c.act.new.state c.push.new.self did.next c.in-Some.node n.node did.is c.in_ok-push.ensures.items (c.in_ok-push.ensures.listed did.is.done_listed)
           (names_done-grow all new c.in-Some.node n.node c.in_ok-act.ensures.grows n.names);
     }
+
+pub returns-clause-run : goal.returns-clause-run
+returns-clause-run c = grind (arith, common_steps)
+
+pub returns-then-is_same_deed-clause-grows : goal.returns-then-is_same_deed-clause-grows
+returns-then-is_same_deed-clause-grows c = grind (arith, common_steps)
+
+pub returns-in-Some-find-clause-grows : goal.returns-in-Some-find-clause-grows
+returns-in-Some-find-clause-grows c = grind (arith, common_steps)
+
+pub returns-in_err-node-clause-grows : goal.returns-in_err-node-clause-grows
+returns-in_err-node-clause-grows c = grind (arith, common_steps)

@@ -1,4 +1,5 @@
-use Rattle.std.proofs.Common.{◌≡◌, Some, true, nat_eq, sym, ap, ◌∙◌, rules, eq-eqb}
+use Rattle.std.proofs.Common.{◌≡◌, Some, true, nat_eq, sym, ap, ◌∙◌, rules, eq-eqb, arith}
+use Rattle.std.proofs.lemmas.Grind.{common_steps}
 use Rattle.term_tree.proofs.BankLaws.{Grows_trans}
 use Rattle.pi_tree.specs.Processes.{process_of}
 use Rattle.spec_attack_runs.specs.Source.{Way}
@@ -66,3 +67,24 @@ each-preserved c =
                 ∙ ap (λ (x : Walk). walked P (process_of next.process.now) next.point x passed.next) (sym (walk-grows old new route next c.in_ok-other.ensures.grows c.each.invariant.known));
           };
     }
+
+pub returns-in_default-below-clause-walks : goal.returns-in_default-below-clause-walks
+returns-in_default-below-clause-walks c = grind (arith, common_steps)
+
+pub returns-then-walk-way-clause-run : goal.returns-then-walk-way-clause-run
+returns-then-walk-way-clause-run c = grind (arith, common_steps)
+
+pub returns-in_default-below-clause-grows : goal.returns-in_default-below-clause-grows
+returns-in_default-below-clause-grows c = grind (arith, common_steps)
+
+pub returns-in_err-other-clause-grows : goal.returns-in_err-other-clause-grows
+returns-in_err-other-clause-grows c = grind (arith, common_steps)
+
+pub returns-then-walk-way-clause-grows : goal.returns-then-walk-way-clause-grows
+returns-then-walk-way-clause-grows c = grind (arith, common_steps)
+
+pub returns-in_default-clause-grows : goal.returns-in_default-clause-grows
+returns-in_default-clause-grows c = grind (arith, common_steps)
+
+pub each-init : goal.each-init
+each-init c = grind (arith, common_steps)

@@ -1,4 +1,5 @@
-use Rattle.std.proofs.Common.{◌∙◌, refl, ap}
+use Rattle.std.proofs.Common.{◌∙◌, refl, ap, arith}
+use Rattle.std.proofs.lemmas.Grind.{common_steps}
 use Rattle.call_outcomes.specs.SeenOutcome.{outcome_of}
 use Rattle.call_outcomes.specs.Text.{words_of}
 use Rattle.call_outcomes.specs.declared.outcome.Outcome.TheVariants.{Usage, ReadFault, Memory}
@@ -24,3 +25,12 @@ returns-in-Err-clause-written g c =
 pub returns-in-Err-clause-words : goal.returns-in-Err-clause-words
 returns-in-Err-clause-words g c =
     memory_has_words (words_of c.args.protocol) (outcome_of c.finish-in-Err.result.outcome) (ap outcome_of c.finish-in-Err.ensures.outcome)
+
+pub returns-in-Ok : goal.returns-in-Ok
+returns-in-Ok g c = grind (arith, common_steps)
+
+pub returns-in-Err-clause-status : goal.returns-in-Err-clause-status
+returns-in-Err-clause-status g c = grind (arith, common_steps)
+
+pub returns-in-Err-clause-outcome : goal.returns-in-Err-clause-outcome
+returns-in-Err-clause-outcome g c = grind (arith, common_steps)

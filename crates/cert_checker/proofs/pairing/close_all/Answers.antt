@@ -1,4 +1,5 @@
 use Rattle.std.proofs.Common.{◌∙◌, List, map, ap, sym, arith}
+use Rattle.std.proofs.lemmas.Grind.{common_steps}
 use Rattle.spec_terms.specs.Term.{Term}
 use Rattle.spec_fingerprints.specs.Fingerprints.{hypothesis_print}
 use Rattle.clause_form.specs.Fit.{clauses_at}
@@ -24,3 +25,6 @@ returns-in-Except-clause-closed g c =
 
 pub returns-clause-closed : goal.returns-clause-closed
 returns-clause-closed g c = all_end (g.B.Bank.trees c.args.bank.now) c.args.checker.now.clauses.now c.args.checker.now.rows.now c.args.from c.each.solved c.each.next (g.B.Bank.trees c.each.bank) c.each.invariant (omega arith)
+
+pub returns-in-Except-clause-bank : goal.returns-in-Except-clause-bank
+returns-in-Except-clause-bank g c = grind (arith, common_steps)

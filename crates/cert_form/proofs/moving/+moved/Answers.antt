@@ -18,3 +18,9 @@ moved_trees-each-preserved t c = grind (arith, common_steps)
 
 pub moved_trees-returns : goal.moved_trees-returns
 moved_trees-returns t c = grind (arith, common_steps)
+
+pub moved_trees-each-init : goal.moved_trees-each-init
+moved_trees-each-init t c = grind (arith, common_steps)
+
+pub moved_tree-returns-in_ok-made-in-Var : goal.moved_tree-returns-in_ok-made-in-Var
+moved_tree-returns-in_ok-made-in-Var t c = grind (arith, common_steps)

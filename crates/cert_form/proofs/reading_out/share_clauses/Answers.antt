@@ -1,4 +1,5 @@
-use Rattle.std.proofs.Common.{◌∙◌, map, ap, rc_value}
+use Rattle.std.proofs.Common.{◌∙◌, map, ap, rc_value, arith}
+use Rattle.std.proofs.lemmas.Grind.{common_steps}
 use Rattle.std.proofs.lemmas.List.{take_all}
 use Rattle.cert_form.proofs.Held.{shared_next}
 use Rattle.cert_form.proofs.reading_out.share_clauses.Goals as goal
@@ -11,3 +12,6 @@ pub returns : goal.returns
 returns c =
     c.each.invariant ∙ (ap (map rc_value) (take_all c.each.clause-index c.deref-clause-items.result.now c.each-test.false)
     ∙ (ap (map rc_value) c.deref-clause-items.ensures.value ∙ c.clauses.view_is))
+
+pub each-init : goal.each-init
+each-init c = grind (arith, common_steps)

@@ -1,4 +1,5 @@
-use Rattle.std.proofs.Common.{◌∙◌, rules}
+use Rattle.std.proofs.Common.{◌∙◌, rules, arith}
+use Rattle.std.proofs.lemmas.Grind.{common_steps}
 use Rattle.cert_text.proofs.Lines.{lines_on, lines_fault, lines_end, lines_over}
 use Rattle.cert_text.proofs.certs.clauses.Goals as goal
 
@@ -20,3 +21,6 @@ returns-then-front-eq99-clause-read c = lines_over _ _ _ _ _ _ _ _ _ c.loop-roun
 
 pub returns-clause-read : goal.returns-clause-read
 returns-clause-read c = lines_end _ _ _ _ _ _ _ _ c.loop-round.invariant.read c.front-2.ensures.is c.if-front-eq99.false
+
+pub returns-in_err-push-clause-same : goal.returns-in_err-push-clause-same
+returns-in_err-push-clause-same c = grind (arith, common_steps)

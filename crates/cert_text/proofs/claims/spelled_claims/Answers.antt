@@ -14,3 +14,6 @@ returns c =
 
 pub loop-claim-preserved : goal.loop-claim-preserved
 loop-claim-preserved c = grind (arith, common_steps)
+
+pub loop-claim-init : goal.loop-claim-init
+loop-claim-init c = grind (arith, common_steps)

@@ -1,4 +1,5 @@
-use Rattle.std.proofs.Common.{◌∙◌}
+use Rattle.std.proofs.Common.{◌∙◌, arith}
+use Rattle.std.proofs.lemmas.Grind.{common_steps}
 use Rattle.fact_reader.proofs.Things.{things_on, things_end, things_out}
 use Rattle.cert_text.proofs.rows.row_numbers.Goals as goal
 
@@ -13,3 +14,6 @@ loop-round-preserved c = record {
 
 pub returns-clause-read : goal.returns-clause-read
 returns-clause-read c = things_out _ _ _ _ _ _ _ c.loop-round.invariant.read c.loop-round-test.false
+
+pub loop-round-init : goal.loop-round-init
+loop-round-init c = grind (arith, common_steps)

@@ -1,4 +1,5 @@
-use Rattle.std.proofs.Common.{◌∙◌, rules}
+use Rattle.std.proofs.Common.{◌∙◌, rules, arith}
+use Rattle.std.proofs.lemmas.Grind.{common_steps}
 use Rattle.cert_text.proofs.Lines.{viewed_on, lines_fault, lines_end, lines_over}
 use Rattle.cert_text.proofs.rows.rows.Goals as goal
 
@@ -20,3 +21,6 @@ returns-then-front-letter-2-clause-read c = lines_over _ _ _ _ _ _ _ _ _ c.loop-
 
 pub returns-clause-read : goal.returns-clause-read
 returns-clause-read c = lines_end _ _ _ _ _ _ _ _ c.loop-round.invariant.read c.front-2.ensures.is c.if-front-letter-2.false
+
+pub loop-round-init : goal.loop-round-init
+loop-round-init c = grind (arith, common_steps)

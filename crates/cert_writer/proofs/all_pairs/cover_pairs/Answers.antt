@@ -1,4 +1,5 @@
 use Rattle.std.proofs.Common.{◌≡◌, ◌∙◌, ℕ, List, take, get_or, length, ap, sym, subst, arith}
+use Rattle.std.proofs.lemmas.Grind.{common_steps}
 use Rattle.spec_terms.specs.Term.{Term}
 use Rattle.spec_clauses.specs.Inclusion.{Has}
 use Rattle.spec_certificates.specs.Certificate.{Numbered, numbered_from, pairs_of}
@@ -85,3 +86,6 @@ returns-in_err-from-clause-bank g c = c.each.invariant.bank
 
 pub returns-in_err-cover_one-clause-bank : goal.returns-in_err-cover_one-clause-bank
 returns-in_err-cover_one-clause-bank g c = c.cover_one.ensures.bank ∙ c.each.invariant.bank
+
+pub each-init : goal.each-init
+each-init g c = grind (arith, common_steps)

@@ -1,4 +1,5 @@
 use Rattle.std.proofs.Common.{◌≡◌, ◌∙◌, ◌<◌, ◌++◌, ◌∷◌, ℕ, Some, List, [], map, take, length, get_or, slice_get, option_map, ap, sym, subst, arith, Vec, Global}
+use Rattle.std.proofs.lemmas.Grind.{common_steps}
 use Rattle.std.proofs.lemmas.List.{get_or_default}
 use Rattle.std.proofs.lemmas.Option.{slice_get-map, slice_get-get_or}
 use Rattle.spec_certificates.specs.Certificate.{numbered_from}
@@ -66,3 +67,15 @@ returns-clause-known g c =
     let are = rows_kept all known live c.requires.begin clause rows c.len-count.result counted adds (c.all_begin_within.ensures c.if-not-all_begin_within.false) in
     kept_more all known live c.requires.begin c.requires.known clause rows _ (subst (λ (n : ℕ). slice_get (clauses_at all live) n ≡ Some clause) placed at) (omega (arith, placed, counted, c.if-place-count.false)) are
     (λ i. (c.known.view_is i).live) (c.in_ok-push.ensures.items ∙ ap (λ (rs : List (List (List ℕ))). rs ++ rows ∷ []) (λ i. (c.known.view_is i).rows.items)) (λ i. (c.known.view_is i).given) (λ i. (c.known.view_is i).covers) (λ i. (c.known.view_is i).plain)
+
+pub bounds-writer-place : goal.bounds-writer-place
+bounds-writer-place g c = grind (arith, common_steps)
+
+pub cover_one-requires-clause-within : goal.cover_one-requires-clause-within
+cover_one-requires-clause-within g c = grind (arith, common_steps)
+
+pub returns-clause-live : goal.returns-clause-live
+returns-clause-live g c = grind (arith, common_steps)
+
+pub returns-clause-given : goal.returns-clause-given
+returns-clause-given g c = grind (arith, common_steps)

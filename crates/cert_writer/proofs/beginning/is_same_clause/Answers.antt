@@ -1,4 +1,5 @@
-use Rattle.std.proofs.Common.{◌≡◌, ◌∙◌, ap, map, sym, rules}
+use Rattle.std.proofs.Common.{◌≡◌, ◌∙◌, ap, map, sym, rules, arith}
+use Rattle.std.proofs.lemmas.Grind.{common_steps}
 use Rattle.clause_diffs.specs.Diffs.{diffs_at}
 use Rattle.clause_form.specs.Facts.{fact_of}
 use Rattle.clause_form.specs.Seen.{fact_at}
@@ -23,3 +24,9 @@ returns g c = λ e.
     let told = same_told (fact_at all (fact_of c.left-inside.inside.0.1.1.0)) (fact_at all (fact_of c.right-inside.inside.0.1.1.0)) (sym c.same_fact.ensures ∙ c.if-not-same_fact.false) in
     let concl : fact_at all left.conclusion ≡ fact_at all right.conclusion = sym (ap (fact_at all) left_concl) ∙ (told ∙ ap (fact_at all) right_concl) in
     λ i. record { hypotheses = hyps i; diffs = diffs i; conclusion = concl i }
+
+pub are_same_facts-requires-clause-lefts : goal.are_same_facts-requires-clause-lefts
+are_same_facts-requires-clause-lefts g c = grind (arith, common_steps)
+
+pub are_same_facts-requires-clause-rights : goal.are_same_facts-requires-clause-rights
+are_same_facts-requires-clause-rights g c = grind (arith, common_steps)

@@ -1,4 +1,5 @@
 use Rattle.std.proofs.Common.{◌≡◌, ◌∙◌, ℕ, List, take, ap, sym, subst, arith}
+use Rattle.std.proofs.lemmas.Grind.{common_steps}
 use Rattle.std.proofs.lemmas.Result.{IfOk-weaker}
 use Rattle.spec_terms.specs.Term.{Term}
 use Rattle.spec_clauses.specs.Inclusion.{Has}
@@ -91,3 +92,6 @@ returns-in-NoUnifier-clause-bank g c = subst (λ (found : Resolved). LeavesBank 
 
 pub returns-in-Large-clause-bank : goal.returns-in-Large-clause-bank
 returns-in-Large-clause-bank g c = subst (λ (found : Resolved). LeavesBank (g.B.Bank.trees c.args.bank.now) (g.B.Bank.trees c.resolvents.new.bank) found) c.in-Large.is c.in_ok-resolvents-in-Some.ensures.as_before
+
+pub returns-in-None-clause-rows : goal.returns-in-None-clause-rows
+returns-in-None-clause-rows g c = grind (arith, common_steps)

@@ -1,4 +1,5 @@
 use Rattle.std.proofs.Common.{◌≡◌, ◌∙◌, ◌-◌, ℕ, List, length, take, drop, ap, sym, subst, arith, Vec, Global}
+use Rattle.std.proofs.lemmas.Grind.{common_steps}
 use Rattle.std.proofs.lemmas.List.{length-map, take_rest}
 use Rattle.std.proofs.lemmas.Result.{IfOk-weaker}
 use Rattle.spec_clauses.specs.Inclusion.{Has}
@@ -45,3 +46,9 @@ returns g c =
     IfOk-weaker c.cover_all.result (λ _. AddsRows (clauses_at all live) (clauses_at all (take (length given - count) (drop count given))) put new) (λ _. AddsRows (clauses_at all live) (clauses_at all given) old new)
     (λ _ adds. given_rows all known live given c.requires.begin c.requires.begin_given c.requires.known count counted old put new c.in_ok-put_rows.ensures
     (subst (λ (cs : List IdClause). AddsRows (clauses_at all live) (clauses_at all cs) put new) (take_rest given count) adds)) c.cover_all.ensures
+
+pub offset_bounds-given-count : goal.offset_bounds-given-count
+offset_bounds-given-count g c = grind (arith, common_steps)
+
+pub slice_bounds-cover_all-start : goal.slice_bounds-cover_all-start
+slice_bounds-cover_all-start g c = grind (arith, common_steps)

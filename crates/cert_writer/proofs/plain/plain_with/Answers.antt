@@ -1,4 +1,5 @@
 use Rattle.std.proofs.Common.{◌≡◌, ◌∙◌, ◌-◌, ◌++◌, List, map, take, drop, length, ap, sym, subst, arith}
+use Rattle.std.proofs.lemmas.Grind.{common_steps}
 use Rattle.std.proofs.lemmas.List.{take_rest}
 use Rattle.clause_form.specs.Seen.{clause_at, AreClausesIn, IdClause}
 use Rattle.clause_form.specs.Fit.{clauses_at}
@@ -28,3 +29,9 @@ returns-clause-plain g c =
     let front : c.in_ok-plain.plain ≡ clauses_at all known.live = c.in_ok-plain.ensures ∙ c.in_ok-keep_plain.ensures.plain in
     let rest : map (clause_at all) (take (length live - count) (drop count live)) ≡ clauses_at all (drop count live) = ap (map (clause_at all)) (take_rest live count) in
     c.in_ok-read_behind.ensures ∙ ((λ i. front i ++ rest i) ∙ live_parts all known live c.requires.begin count counted)
+
+pub offset_bounds-writer-count : goal.offset_bounds-writer-count
+offset_bounds-writer-count g c = grind (arith, common_steps)
+
+pub slice_bounds-read_behind-start : goal.slice_bounds-read_behind-start
+slice_bounds-read_behind-start g c = grind (arith, common_steps)

@@ -1,4 +1,5 @@
-use Rattle.std.proofs.Common.{◌∙◌, ℕ, Option, List, [], ◌∷◌, ◌++◌, map, Vec, Global, inr, ap, sym, subst}
+use Rattle.std.proofs.Common.{◌∙◌, ℕ, Option, List, [], ◌∷◌, ◌++◌, map, Vec, Global, inr, ap, sym, subst, arith}
+use Rattle.std.proofs.lemmas.Grind.{common_steps}
 use Rattle.std.specs.Prelude.{MatchOption}
 use Rattle.std.proofs.lemmas.List.{map-append}
 use Rattle.spec_translation.specs.Satisfied.{IsSatisfied}
@@ -28,3 +29,6 @@ returns-in_ok-push-in-Some g c = λ q at.
       first = subst (λ (found : Option (Vec ℕ Global)). MatchOption found (IsSatisfied P q clause → ⊥) (λ found_row. IsFirstGoal P q clause found_row.items)) c.in-Some.is (c.in_ok-goal_row.ensures q at);
       are = ap (map numbers) c.in_ok-push-in-Some.ensures.items ∙ (map-append numbers c.rows.inside.items.items (row ∷ []) ∙ ap (λ (rows : List (List ℕ)). rows ++ row.items ∷ []) c.rows.view_is);
     }
+
+pub returns-then-not-is_due : goal.returns-then-not-is_due
+returns-then-not-is_due g c = grind (arith, common_steps)

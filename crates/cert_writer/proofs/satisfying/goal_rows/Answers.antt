@@ -1,4 +1,5 @@
-use Rattle.std.proofs.Common.{◌≡◌, ◌∙◌, ◌+◌, Some, List, refl, sym, subst}
+use Rattle.std.proofs.Common.{◌≡◌, ◌∙◌, ◌+◌, Some, List, refl, sym, subst, arith}
+use Rattle.std.proofs.lemmas.Grind.{common_steps}
 use Rattle.std.specs.Prelude.{slice_get, MatchBool}
 use Rattle.pi_tree.specs.Protocols.{protocol_of}
 use Rattle.log_entries.specs.declared.log.Entry.{Entry}
@@ -37,3 +38,9 @@ each-preserved g c =
     λ q at.
     let adds = subst (λ b. MatchBool b (AddsGoal P q all e c.each.rows c.add_goal.new.rows) (IsUnmetEntry P q all e)) c.if-not-branch.false (c.in_ok-add_goal.ensures q at) in
     goals_next all P q c.args.log.now c.each.k e c.each.rows c.add_goal.new.rows here adds (c.each.invariant q at)
+
+pub returns : goal.returns
+returns g c = grind (arith, common_steps)
+
+pub each-init : goal.each-init
+each-init g c = grind (arith, common_steps)

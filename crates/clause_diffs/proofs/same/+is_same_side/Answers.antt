@@ -1,4 +1,5 @@
 use Rattle.std.proofs.Common.{◌∙◌, ap, sym, arith}
+use Rattle.std.proofs.lemmas.Grind.{common_steps}
 use Rattle.spec_clauses.specs.Diff.{same_sides}
 use Rattle.term_tree.specs.Bank.{symbol_of}
 use Rattle.clause_diffs.specs.Diffs.{sides_at}
@@ -34,3 +35,9 @@ returns-after-each g t c =
     let whole = same_sides (sides_at all c.args.first xs) (sides_at all c.args.other ys) in
     same_symbols all c.args.first c.args.other c.args.left c.args.right (symbol_of c.in-App-App.f) (symbol_of c.in-App-App.g) xs ys _ c.in-App-App.ensures.0 c.in-App-App.ensures'.0 (ap symbol_of (c.is_same.ensures.0 c.if-not-is_same.false))
     (sides_end all c.args.first c.args.other xs ys c.each.i whole c.each.invariant c.each-test.false (omega (arith, c.each-test.false, c.if-xs-ys.false)))
+
+pub each-preserved : goal.each-preserved
+each-preserved g t c = grind (arith, common_steps)
+
+pub offset_bounds-ys-i : goal.offset_bounds-ys-i
+offset_bounds-ys-i g t c = grind (arith, common_steps)

@@ -1,4 +1,5 @@
-use Rattle.std.proofs.Common.{◌≡◌, ◌∙◌, rules}
+use Rattle.std.proofs.Common.{◌≡◌, ◌∙◌, rules, arith}
+use Rattle.std.proofs.lemmas.Grind.{common_steps}
 use Rattle.spec_clauses.specs.Diff.{same_sides}
 use Rattle.clause_diffs.specs.Diffs.{sides_at}
 use Rattle.clause_diffs.proofs.Comparing.{both_told}
@@ -18,3 +19,9 @@ returns-then-are_same_sides g c =
     both_told c.are_same_sides.result c.are_same_sides-then-are_same_sides.result (same_sides (sides_at all left.first left.left) (sides_at all right.first right.left)) (same_sides (sides_at all left.first left.right) (sides_at all right.first right.right))
     (c.are_same_sides.ensures ∙ (λ i. same_sides (sides_at all (first i) (lefts i)) (sides_at all (other i) (rights i)))) c.if-are_same_sides.true
     (c.are_same_sides-then-are_same_sides.ensures ∙ (λ i. same_sides (sides_at all (first i) (last_lefts i)) (sides_at all (other i) (last_rights i))))
+
+pub are_same_sides-requires-then-are_same_sides-clause-lefts : goal.are_same_sides-requires-then-are_same_sides-clause-lefts
+are_same_sides-requires-then-are_same_sides-clause-lefts g c = grind (arith, common_steps)
+
+pub are_same_sides-requires-then-are_same_sides-clause-rights : goal.are_same_sides-requires-then-are_same_sides-clause-rights
+are_same_sides-requires-then-are_same_sides-clause-rights g c = grind (arith, common_steps)

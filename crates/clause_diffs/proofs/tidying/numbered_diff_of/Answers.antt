@@ -1,4 +1,5 @@
-use Rattle.std.proofs.Common.{◌∙◌, nat_eq, ap, sym, subst, rules}
+use Rattle.std.proofs.Common.{◌∙◌, nat_eq, ap, sym, subst, rules, arith}
+use Rattle.std.proofs.lemmas.Grind.{common_steps}
 use Rattle.spec_clauses.specs.Distinct.{distinct}
 use Rattle.term_tree.specs.Bank.{AreKnown}
 use Rattle.term_tree.proofs.BankLaws.{Grows_trans, AreKnown-grows}
@@ -21,3 +22,15 @@ pub numbered_terms-requires-2 : goal.numbered_terms-requires-2
 numbered_terms-requires-2 g c =
     let mid = g.B.Bank.trees c.numbered_terms.new.bank in
     subst (λ ids. AreKnown mid ids) (search rules) (AreKnown-grows (g.B.Bank.trees c.args.bank.now) mid c.args.diff.now.right c.numbered_terms.ensures.grows c.requires.known.right)
+
+pub returns-in_err-right-clause-grows : goal.returns-in_err-right-clause-grows
+returns-in_err-right-clause-grows g c = grind (arith, common_steps)
+
+pub returns-clause-first : goal.returns-clause-first
+returns-clause-first g c = grind (arith, common_steps)
+
+pub returns-in_err-bound-clause-grows : goal.returns-in_err-bound-clause-grows
+returns-in_err-bound-clause-grows g c = grind (arith, common_steps)
+
+pub returns-in_err-numbers-clause-grows : goal.returns-in_err-numbers-clause-grows
+returns-in_err-numbers-clause-grows g c = grind (arith, common_steps)

@@ -1,4 +1,5 @@
-use Rattle.std.proofs.Common.{◌≡◌}
+use Rattle.std.proofs.Common.{◌≡◌, arith}
+use Rattle.std.proofs.lemmas.Grind.{common_steps}
 use Rattle.term_tree.proofs.BankLaws.{Grows_refl, Grows_trans}
 use Rattle.clause_diffs.specs.Places.{by_places}
 use Rattle.clause_diffs.proofs.Walks.{known_later}
@@ -29,3 +30,6 @@ returns-in_err-next-clause-grows g c = Grows_trans (g.B.Bank.trees c.args.bank.n
 
 pub returns-in_err-push-clause-grows : goal.returns-in_err-push-clause-grows
 returns-in_err-push-clause-grows g c = Grows_trans (g.B.Bank.trees c.args.bank.now) (g.B.Bank.trees c.each.bank) (g.B.Bank.trees c.numbered_term.new.bank) c.each.invariant.grows c.numbered_term.ensures.grows
+
+pub returns-in_err-items-clause-grows : goal.returns-in_err-items-clause-grows
+returns-in_err-items-clause-grows g c = grind (arith, common_steps)

@@ -23,3 +23,9 @@ returns-in_err-ids-in-App-clause-grows g t c = Grows_refl (g.B.Bank.trees c.args
 
 pub returns-after-each-clause-names : goal.returns-after-each-clause-names
 returns-after-each-clause-names g t c = grind (arith, common_steps)
+
+pub each-init : goal.each-init
+each-init g t c = grind (arith, common_steps)
+
+pub app-requires : goal.app-requires
+app-requires g t c = grind (arith, common_steps)

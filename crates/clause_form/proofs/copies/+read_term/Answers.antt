@@ -14,3 +14,9 @@ each-preserved g t c = grind (arith, common_steps)
 
 pub returns-after-each : goal.returns-after-each
 returns-after-each g t c = grind (arith, common_steps)
+
+pub each-init : goal.each-init
+each-init g t c = grind (arith, common_steps)
+
+pub returns-in-Var : goal.returns-in-Var
+returns-in-Var g t c = grind (arith, common_steps)

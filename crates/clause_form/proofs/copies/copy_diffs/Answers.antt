@@ -1,3 +1,5 @@
+use Rattle.std.proofs.Common.{arith}
+use Rattle.std.proofs.lemmas.Grind.{common_steps}
 use Rattle.clause_form.proofs.Copying.{diffs_copied_on, diffs_copied_all}
 use Rattle.term_tree.proofs.BankLaws.{Grows_refl, Grows_trans}
 use Rattle.clause_form.proofs.copies.copy_diffs.Goals as goal
@@ -18,3 +20,6 @@ returns-clause-names g c = diffs_copied_all (g.B.Bank.trees c.args.bank.now) (g.
 
 pub returns-in_err-items-clause-grows : goal.returns-in_err-items-clause-grows
 returns-in_err-items-clause-grows g c = Grows_refl (g.B.Bank.trees c.args.bank.now)
+
+pub loop-one-init : goal.loop-one-init
+loop-one-init g c = grind (arith, common_steps)

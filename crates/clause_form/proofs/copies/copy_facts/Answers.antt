@@ -20,3 +20,6 @@ returns-clause-names g c = grind (arith, common_steps)
 
 pub returns-in_err-items-clause-grows : goal.returns-in_err-items-clause-grows
 returns-in_err-items-clause-grows g c = Grows_refl (g.B.Bank.trees c.args.bank.now)
+
+pub loop-one-init : goal.loop-one-init
+loop-one-init g c = grind (arith, common_steps)

@@ -17,3 +17,6 @@ returns g c =
 
 pub loop-fact-preserved : goal.loop-fact-preserved
 loop-fact-preserved g c = grind (arith, common_steps)
+
+pub loop-fact-init : goal.loop-fact-init
+loop-fact-init g c = grind (arith, common_steps)

@@ -11,3 +11,6 @@ loop-id-preserved g c = grind (arith, common_steps)
 
 pub returns : goal.returns
 returns g c = grind (arith, common_steps)
+
+pub loop-id-init : goal.loop-id-init
+loop-id-init g c = grind (arith, common_steps)

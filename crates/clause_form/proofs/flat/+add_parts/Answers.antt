@@ -33,3 +33,6 @@ pub returns-then-not-is_data_symbol-clause-parts : goal.returns-then-not-is_data
 returns-then-not-is_data_symbol-clause-parts g t c =
     let all = g.B.Bank.trees c.args.bank.now in
     pushed_whole all c.push-then-not-is_data_symbol.result c.args.phase c.args.id c.args.facts.now c.push-then-not-is_data_symbol.new.self c.push-then-not-is_data_symbol.ensures.ok (other_flat all c.args.phase c.args.id (symbol_of c.in-App.symbol) c.in-App.arguments.now c.in-App.ensures.0 (search rules))
+
+pub each-init : goal.each-init
+each-init g t c = grind (arith, common_steps)

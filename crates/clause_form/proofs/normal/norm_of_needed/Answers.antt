@@ -1,4 +1,5 @@
-use Rattle.std.proofs.Common.{◌∙◌, map, ap}
+use Rattle.std.proofs.Common.{◌∙◌, map, ap, arith}
+use Rattle.std.proofs.lemmas.Grind.{common_steps}
 use Rattle.clause_diffs.specs.Diffs.{diffs_at}
 use Rattle.clause_form.specs.Facts.{fact_of}
 use Rattle.clause_form.proofs.Norming.{own_few, no_norm, norm_named}
@@ -28,3 +29,9 @@ returns-in_err-few-clause-grows g c = Grows_refl (g.B.Bank.trees c.args.bank.now
 
 pub returns-in_err-kept-clause-grows : goal.returns-in_err-kept-clause-grows
 returns-in_err-kept-clause-grows g c = Grows_refl (g.B.Bank.trees c.args.bank.now)
+
+pub generalized_clause-requires-clause-hyps : goal.generalized_clause-requires-clause-hyps
+generalized_clause-requires-clause-hyps g c = grind (arith, common_steps)
+
+pub returns-then-is_among-clause-grows : goal.returns-then-is_among-clause-grows
+returns-then-is_among-clause-grows g c = grind (arith, common_steps)

@@ -128,3 +128,9 @@ returns-in_ok-made-in-App-2-clause-changes g t c =
     let same = tree_at-grows old new c.args.id grows c.requires.known in
     c.remember.ensures new s (remembered_grow now new s c.each.changes c.app.ensures.grows c.each.invariant.changes) (omega (arith, c.requires.known, Grows-length old new grows))
     (subst (λ (u : Term). Names new c.in_ok-made-in-App-2.made (bind s u)) (sym same) (returns-in_ok-made-in-App-2-clause-names g t c))
+
+pub returns-in-Var-clause-stack : goal.returns-in-Var-clause-stack
+returns-in-Var-clause-stack g t c = grind (arith, common_steps)
+
+pub returns-in-Some-clause-grows : goal.returns-in-Some-clause-grows
+returns-in-Some-clause-grows g t c = grind (arith, common_steps)

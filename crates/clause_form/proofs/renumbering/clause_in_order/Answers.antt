@@ -1,4 +1,5 @@
-use Rattle.std.proofs.Common.{map, refl}
+use Rattle.std.proofs.Common.{map, refl, arith}
+use Rattle.std.proofs.lemmas.Grind.{common_steps}
 use Rattle.clause_diffs.specs.Numbers.{placed}
 use Rattle.clause_form.specs.Facts.{fact_of}
 use Rattle.clause_form.proofs.Copying.{IsFactIn-grows}
@@ -26,3 +27,9 @@ returns-clause-grows g c = Grows_trans (g.B.Bank.trees c.args.bank.now) (g.B.Ban
 
 pub returns-in_err-stack-clause-grows : goal.returns-in_err-stack-clause-grows
 returns-in_err-stack-clause-grows g c = Grows_refl (g.B.Bank.trees c.args.bank.now)
+
+pub renumbered_fact-requires-clause-changes : goal.renumbered_fact-requires-clause-changes
+renumbered_fact-requires-clause-changes g c = grind (arith, common_steps)
+
+pub same-diffs : goal.same-diffs
+same-diffs g c = grind (arith, common_steps)

@@ -1,3 +1,5 @@
+use Rattle.std.proofs.Common.{arith}
+use Rattle.std.proofs.lemmas.Grind.{common_steps}
 use Rattle.clause_diffs.specs.Numbers.{placed}
 use Rattle.clause_form.proofs.Walks.{known_later}
 use Rattle.clause_form.proofs.Renumber.{renumbered_on, renumbered_all}
@@ -29,3 +31,6 @@ returns-in_err-push-clause-grows g c = Grows_trans (g.B.Bank.trees c.args.bank.n
 
 pub returns-in_err-items-clause-grows : goal.returns-in_err-items-clause-grows
 returns-in_err-items-clause-grows g c = Grows_refl (g.B.Bank.trees c.args.bank.now)
+
+pub each-init : goal.each-init
+each-init g c = grind (arith, common_steps)

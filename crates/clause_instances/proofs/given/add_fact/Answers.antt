@@ -1,4 +1,5 @@
-use Rattle.std.proofs.Common.{◌&&◌, [], ◌∷◌, sym, subst}
+use Rattle.std.proofs.Common.{◌&&◌, [], ◌∷◌, sym, subst, arith}
+use Rattle.std.proofs.lemmas.Grind.{common_steps}
 use Rattle.clause_form.specs.declared.plain.PlainFact.{PlainFact}
 use Rattle.clause_diffs.specs.Plain.{term_of}
 use Rattle.term_tree.proofs.BankLaws.{AreKnown-grows}
@@ -18,3 +19,9 @@ returns-in_ok-second-in-Mess-clause-adds c = λ s closes.
     let both = more_added old mid next s (term_of c.in-Mess.channel ∷ []) (term_of c.in-Mess.message ∷ []) c.args.made.now c.add_one-in-Mess.new.made c.add_one-in-Mess-2.new.made c.in_ok-first-in-Mess.first c.in_ok-second-in-Mess.second
     (c.in_ok-first-in-Mess.ensures.adds s closes) (c.in_ok-second-in-Mess.ensures.adds s later) in
     subst (λ (f : PlainFact). AddsClosed old next s (fact_terms f) c.args.made.now c.add_one-in-Mess-2.new.made (c.in_ok-first-in-Mess.first && c.in_ok-second-in-Mess.second)) (sym c.in-Mess.is) both
+
+pub returns-in_err-second-in-Mess-clause-grows : goal.returns-in_err-second-in-Mess-clause-grows
+returns-in_err-second-in-Mess-clause-grows c = grind (arith, common_steps)
+
+pub returns-in_ok-second-in-Mess-clause-grows : goal.returns-in_ok-second-in-Mess-clause-grows
+returns-in_ok-second-in-Mess-clause-grows c = grind (arith, common_steps)

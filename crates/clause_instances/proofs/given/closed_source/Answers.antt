@@ -1,4 +1,5 @@
-use Rattle.std.proofs.Common.{refl}
+use Rattle.std.proofs.Common.{refl, arith}
+use Rattle.std.proofs.lemmas.Grind.{common_steps}
 use Rattle.spec_attack_runs.specs.Source.{Source}
 use Rattle.term_tree.proofs.BankLaws.{AreKnown-grows}
 use Rattle.clause_instances.specs.declared.instance.Instance as made
@@ -36,3 +37,12 @@ returns-clause-closed c = λ s closes.
     let way_is = rw c.in-Some-2.is at second in
     let ids : made.Instance = record { source = c.args.index; supposed = c.in-Some.supposed; messages = c.in-Some-2.messages; sessions = c.in-Some-2.sessions } in
     closed_whole mid next s source c.args.index ids c.way_of.ensures.grows supposed_are way_is refl
+
+pub returns-in_err-messages-clause-grows : goal.returns-in_err-messages-clause-grows
+returns-in_err-messages-clause-grows c = grind (arith, common_steps)
+
+pub returns-clause-grows : goal.returns-clause-grows
+returns-clause-grows c = grind (arith, common_steps)
+
+pub returns-in_default-2-clause-grows : goal.returns-in_default-2-clause-grows
+returns-in_default-2-clause-grows c = grind (arith, common_steps)

@@ -1,4 +1,5 @@
 use Rattle.std.proofs.Common.{◌≡◌, ◌∙◌, Some, List, length, map, ap, sym, subst, refl, arith}
+use Rattle.std.proofs.lemmas.Grind.{common_steps}
 use Rattle.std.specs.Prelude.{slice_get}
 use Rattle.std.proofs.lemmas.Option.{slice_get_read}
 use Rattle.spec_calculus.specs.Points.{numbered}
@@ -38,3 +39,15 @@ returns-clause-instance c = λ log at.
     let next = c.in_ok-closing.ensures.next ∙ ap (λ (ts : List Term). next_after ts n variables) seen in
     instance_found c.closed_source.new.bank sources log p n c.args.number c.in-Some.index source variables c.new.new.number c.closed_source.result at there here (of_source source variables of) next
     (c.closed_source.ensures.closed (closing p.terms n variables) made.closes)
+
+pub returns-clause-grows : goal.returns-clause-grows
+returns-clause-grows c = grind (arith, common_steps)
+
+pub returns-in_err-variables-clause-grows : goal.returns-in_err-variables-clause-grows
+returns-in_err-variables-clause-grows c = grind (arith, common_steps)
+
+pub new-requires : goal.new-requires
+new-requires c = grind (arith, common_steps)
+
+pub returns-in_default-2-clause-grows : goal.returns-in_default-2-clause-grows
+returns-in_default-2-clause-grows c = grind (arith, common_steps)

@@ -1,4 +1,5 @@
-use Rattle.std.proofs.Common.{◌≡◌, flat_map, ap}
+use Rattle.std.proofs.Common.{◌≡◌, flat_map, ap, arith}
+use Rattle.std.proofs.lemmas.Grind.{common_steps}
 use Rattle.spec_terms.specs.Term.{Term}
 use Rattle.spec_clauses.specs.Fact.{Clause, terms_of}
 use Rattle.spec_attack_runs.specs.Attack.{supposed}
@@ -35,3 +36,12 @@ returns-clause-supposed c = λ s closes.
     let hyps = adds_alone old now s (flat_map terms_of c.raw.inside.hyps) (supposed raw) c.no_ids-made.result c.add_facts.new.made c.in_ok-hyps.hyps c.no_ids-made.ensures hyps_are (c.in_ok-hyps.ensures.adds s closes) in
     let concl = adds_alone now next s (fact_terms c.raw.inside.concl) (terms_of raw.conclusion) c.no_ids-concluded.result c.add_fact.new.made c.in_ok-concl.concl c.no_ids-concluded.ensures concl_is (c.in_ok-concl.ensures.adds s later) in
     supposed_large old now next s raw c.add_facts.new.made c.add_fact.new.made c.in_ok-hyps.hyps c.in_ok-concl.concl hyps concl c.if-concl-hyps.false
+
+pub returns-in_err-concl-clause-grows : goal.returns-in_err-concl-clause-grows
+returns-in_err-concl-clause-grows c = grind (arith, common_steps)
+
+pub returns-then-concl-hyps-clause-grows : goal.returns-then-concl-hyps-clause-grows
+returns-then-concl-hyps-clause-grows c = grind (arith, common_steps)
+
+pub returns-clause-grows : goal.returns-clause-grows
+returns-clause-grows c = grind (arith, common_steps)

@@ -1,3 +1,5 @@
+use Rattle.std.proofs.Common.{arith}
+use Rattle.std.proofs.lemmas.Grind.{common_steps}
 use Rattle.term_tree.proofs.BankLaws.{AreKnown-grows, Grows_trans}
 use Rattle.unify_match.proofs.SeenLemmas.{IsReady-grows}
 use Rattle.clause_form.specs.Seen.{clause_at}
@@ -61,3 +63,21 @@ returns-clause-descends c =
     let own_rights = rw c.in-Some-3.is at c.in_ok-rights.ensures.terms in
     whole_descent c.args.bank.now c.kept_of.new.bank c.own_terms.new.bank c.own_terms-2.new.bank c.args.parents.solved.now c.args.parents.unsolved.now c.args.parents.met.now c.args.number c.in-Some.kept.items c.in-Some-2.lefts c.in-Some-3.rights c.in_ok-found.found
     c.kept_of.ensures.grows c.own_terms.ensures.grows c.own_terms-2.ensures.grows c.requires.solved c.requires.unsolved c.requires.met.ready kept own_lefts own_rights c.in_ok-found.ensures.variables c.in_ok-found.ensures.lefts c.in_ok-found.ensures.rights
+
+pub returns-in_err-rights-clause-grows : goal.returns-in_err-rights-clause-grows
+returns-in_err-rights-clause-grows c = grind (arith, common_steps)
+
+pub returns-in_err-found-clause-grows : goal.returns-in_err-found-clause-grows
+returns-in_err-found-clause-grows c = grind (arith, common_steps)
+
+pub returns-in_err-lefts-clause-grows : goal.returns-in_err-lefts-clause-grows
+returns-in_err-lefts-clause-grows c = grind (arith, common_steps)
+
+pub returns-in_default-3-clause-grows : goal.returns-in_default-3-clause-grows
+returns-in_default-3-clause-grows c = grind (arith, common_steps)
+
+pub returns-clause-grows : goal.returns-clause-grows
+returns-clause-grows c = grind (arith, common_steps)
+
+pub returns-in_default-2-clause-grows : goal.returns-in_default-2-clause-grows
+returns-in_default-2-clause-grows c = grind (arith, common_steps)

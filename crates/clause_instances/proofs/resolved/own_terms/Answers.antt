@@ -1,4 +1,5 @@
 use Rattle.std.proofs.Common.{◌≡◌, ◌∙◌, ◌<◌, true, Some, List, ℕ, nat_eq, map, sym, subst, refl, arith, rules}
+use Rattle.std.proofs.lemmas.Grind.{common_steps}
 use Rattle.std.specs.List.{list_any, AllByRecursion}
 use Rattle.spec_calculus.specs.Bounds.{most_symbols}
 use Rattle.spec_clauses.specs.Norm.{distinct}
@@ -45,3 +46,15 @@ returns-clause-terms c =
     let numbers_are : c.deref-number-items.result.now ≡ distinct nat_eq (clause_variables (clause_at old c.args.clause.now)) = c.deref-number-items.ensures.value ∙ c.in_ok-numbers.ensures in
     subst (λ (xs : List ℕ). AreOwnTerms c.each.bank (map (stands_for pairs c.args.raised old) xs) (Some c.each.items.items)) numbers_are
     (own_ends pairs c.args.raised old c.each.bank c.deref-number-items.result.now c.each.number-index c.each.items.items c.each.invariant c.each-test.false)
+
+pub returns-in_err-push-in-Some-clause-grows : goal.returns-in_err-push-in-Some-clause-grows
+returns-in_err-push-in-Some-clause-grows c = grind (arith, common_steps)
+
+pub returns-in_err-own_term-clause-grows : goal.returns-in_err-own_term-clause-grows
+returns-in_err-own_term-clause-grows c = grind (arith, common_steps)
+
+pub returns-in-None-clause-grows : goal.returns-in-None-clause-grows
+returns-in-None-clause-grows c = grind (arith, common_steps)
+
+pub returns-in_err-items-clause-grows : goal.returns-in_err-items-clause-grows
+returns-in_err-items-clause-grows c = grind (arith, common_steps)

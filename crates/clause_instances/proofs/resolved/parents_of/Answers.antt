@@ -1,4 +1,5 @@
-use Rattle.std.proofs.Common.{◌∙◌, Some, None, List, map, ap, sym, subst, refl}
+use Rattle.std.proofs.Common.{◌∙◌, Some, None, List, map, ap, sym, subst, refl, arith}
+use Rattle.std.proofs.lemmas.Grind.{common_steps}
 use Rattle.spec_terms.specs.Term.{Term}
 use Rattle.term_tree.specs.Bank.{tree_at}
 use Rattle.spec_attack_runs.specs.Instance.{closing, next_after}
@@ -54,3 +55,6 @@ returns-clause-parents c = λ log tells at.
     let some = rw c.in-Some-3.is at c.in_ok-first.ensures.closed in
     let both = subst (λ (ts : List Term). AreClosed c.closed_parents.new.bank (closing ts n found.variables.items) found.lefts found.rights (Some (c.in-Some-3.first, c.in-Some-3.second))) seen some in
     parents log entries p n c.args.descends tells at c.in-Some.solved.now c.in-Some-entry.unsolved.now (sym c.in-Some.ensures) (sym c.in-Some-entry.ensures) found comes c.closed_parents.new.bank _ _ c.closed_parents.new.number refl refl both.0.are both.1.are both.2 (c.in_ok-first.ensures.next ∙ ap (λ (ts : List Term). next_after ts n found.variables.items) seen)
+
+pub returns-in_err-found-clause-grows : goal.returns-in_err-found-clause-grows
+returns-in_err-found-clause-grows c = grind (arith, common_steps)

@@ -1,4 +1,5 @@
-use Rattle.std.proofs.Common.{◌≡◌, ◌∙◌, is_some, map, ap, sym, subst}
+use Rattle.std.proofs.Common.{◌≡◌, ◌∙◌, is_some, map, ap, sym, subst, arith}
+use Rattle.std.proofs.lemmas.Grind.{common_steps}
 use Rattle.spec_calculus.specs.Points.{numbered}
 use Rattle.spec_clauses.specs.Norm.{norm}
 use Rattle.clause_form.specs.Seen.{clause_at, AreClausesIn}
@@ -42,3 +43,12 @@ returns-clause-part c =
     let old = c.args.bank.now in
     let are = ap (map (clause_at old)) (c.deref-part-items.ensures.value ∙ c.parts.view_is) ∙ c.in_ok-parts.ensures.are in
     sym (ap (λ cs. numbered (telling cs) c.args.number) are) ∙ left_none old c.each.bank c.deref-part-items.result.now c.args.number c.each.part-index c.each.left c.each.invariant c.each-test.false
+
+pub returns-in_err-found-clause-grows : goal.returns-in_err-found-clause-grows
+returns-in_err-found-clause-grows c = grind (arith, common_steps)
+
+pub returns-then-says-left-clause-grows : goal.returns-then-says-left-clause-grows
+returns-then-says-left-clause-grows c = grind (arith, common_steps)
+
+pub returns-in_err-says-clause-grows : goal.returns-in_err-says-clause-grows
+returns-in_err-says-clause-grows c = grind (arith, common_steps)

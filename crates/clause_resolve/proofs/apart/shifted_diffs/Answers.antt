@@ -1,3 +1,5 @@
+use Rattle.std.proofs.Common.{arith}
+use Rattle.std.proofs.lemmas.Grind.{common_steps}
 use Rattle.spec_terms.specs.Unifier.{moved}
 use Rattle.spec_calculus.specs.Bounds.{most_symbols}
 use Rattle.term_tree.proofs.BankLaws.{Grows_trans}
@@ -38,3 +40,6 @@ returns-in_err-next-clause-grows g c = Grows_trans (g.B.Bank.trees c.args.bank.n
 
 pub returns-in_err-push-clause-grows : goal.returns-in_err-push-clause-grows
 returns-in_err-push-clause-grows g c = Grows_trans (g.B.Bank.trees c.args.bank.now) (g.B.Bank.trees c.each.bank) (g.B.Bank.trees c.shifted_diff.new.bank) c.each.invariant.done.grows c.shifted_diff.ensures.grows
+
+pub returns-in_err-items-clause-grows : goal.returns-in_err-items-clause-grows
+returns-in_err-items-clause-grows g c = grind (arith, common_steps)

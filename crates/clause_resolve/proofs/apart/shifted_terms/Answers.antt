@@ -1,4 +1,5 @@
-use Rattle.std.proofs.Common.{get_or}
+use Rattle.std.proofs.Common.{get_or, arith}
+use Rattle.std.proofs.lemmas.Grind.{common_steps}
 use Rattle.spec_terms.specs.Unifier.{moved}
 use Rattle.spec_calculus.specs.Bounds.{most_symbols}
 use Rattle.term_tree.proofs.BankLaws.{tree_at-grows, Grows_trans}
@@ -33,3 +34,9 @@ returns-in_err-next-clause-grows g c = Grows_trans (g.B.Bank.trees c.args.bank.n
 
 pub returns-in_err-push-clause-grows : goal.returns-in_err-push-clause-grows
 returns-in_err-push-clause-grows g c = Grows_trans (g.B.Bank.trees c.args.bank.now) (g.B.Bank.trees c.each.bank) (g.B.Bank.trees c.shifted.new.bank) c.each.invariant.grows c.shifted.ensures.grows
+
+pub returns-in_err-items-clause-grows : goal.returns-in_err-items-clause-grows
+returns-in_err-items-clause-grows g c = grind (arith, common_steps)
+
+pub each-init : goal.each-init
+each-init g c = grind (arith, common_steps)

@@ -1,4 +1,5 @@
-use Rattle.std.proofs.Common.{◌≡◌, ◌+◌, List, map, ap, sym, subst, ◌∙◌}
+use Rattle.std.proofs.Common.{◌≡◌, ◌+◌, List, map, ap, sym, subst, ◌∙◌, arith}
+use Rattle.std.proofs.lemmas.Grind.{common_steps}
 use Rattle.spec_trees.specs.Tree.{bind, size}
 use Rattle.spec_terms.specs.Binding.{resolved}
 use Rattle.spec_clauses.specs.Fact.{Fact, terms_of, total, fact_size, fact_under}
@@ -29,3 +30,12 @@ returns-clause-outcome g c =
     let named = fact_applied all now s f c.in_ok-made-2.made c.args.left.now c.spend.new.left left spent
     (subst (λ (ids : List Id). NameTerms now c.in_ok-made-2.made (map (bind s) (map (tree_at all) ids)) × (left + total size (map (bind s) (map (tree_at all) ids)) ≡ c.spend.new.left)) terms c.in_ok-made-2.ensures.outcome) in
     subst (λ (h : Fact Id). NamesFact now h (fact_under s (fact_at all f)) × (left + fact_size (fact_under s (fact_at all f)) ≡ c.args.left.now)) (sym made) named
+
+pub returns-in_err-made-2 : goal.returns-in_err-made-2
+returns-in_err-made-2 g c = grind (arith, common_steps)
+
+pub returns-in-Att-clause-outcome : goal.returns-in-Att-clause-outcome
+returns-in-Att-clause-outcome g c = grind (arith, common_steps)
+
+pub applied_terms-requires : goal.applied_terms-requires
+applied_terms-requires g c = grind (arith, common_steps)

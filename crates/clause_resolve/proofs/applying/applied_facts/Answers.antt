@@ -1,4 +1,5 @@
 use Rattle.std.proofs.Common.{arith}
+use Rattle.std.proofs.lemmas.Grind.{common_steps}
 use Rattle.std.proofs.lemmas.Result.{err_from_is_err_and}
 use Rattle.clause_resolve.proofs.Stopping.{stops_as}
 use Rattle.unify_match.proofs.SeenLemmas.{IsReady-grows}
@@ -44,3 +45,6 @@ returns-in_err-push-clause-grows g c = Grows_trans (g.B.Bank.trees c.args.bank.n
 
 pub returns-in_err-items-clause-grows : goal.returns-in_err-items-clause-grows
 returns-in_err-items-clause-grows g c = Grows_refl (g.B.Bank.trees c.args.bank.now)
+
+pub each-init : goal.each-init
+each-init g c = grind (arith, common_steps)

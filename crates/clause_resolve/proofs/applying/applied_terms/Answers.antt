@@ -1,4 +1,5 @@
 use Rattle.std.proofs.Common.{arith}
+use Rattle.std.proofs.lemmas.Grind.{common_steps}
 use Rattle.std.proofs.lemmas.Result.{err_from_is_err_and}
 use Rattle.clause_resolve.proofs.Stopping.{stops_as}
 use Rattle.unify_match.proofs.SeenLemmas.{IsReady-grows}
@@ -41,3 +42,9 @@ returns-in_err-next-clause-grows g c = Grows_trans (g.B.Bank.trees c.args.bank.n
 
 pub returns-in_err-push-clause-grows : goal.returns-in_err-push-clause-grows
 returns-in_err-push-clause-grows g c = Grows_trans (g.B.Bank.trees c.args.bank.now) (g.B.Bank.trees c.each.bank) (g.B.Bank.trees c.applied.new.bank) c.each.invariant.done.grows c.applied.ensures.grows
+
+pub each-init : goal.each-init
+each-init g c = grind (arith, common_steps)
+
+pub returns-in_err-items-clause-grows : goal.returns-in_err-items-clause-grows
+returns-in_err-items-clause-grows g c = grind (arith, common_steps)

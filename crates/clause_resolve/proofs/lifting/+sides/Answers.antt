@@ -1,4 +1,5 @@
 use Rattle.std.proofs.Common.{◌≡◌, ◌∙◌, List, map, ap, sym, subst, arith}
+use Rattle.std.proofs.lemmas.Grind.{common_steps}
 use Rattle.std.proofs.lemmas.Result.{err_from_is_err_and}
 use Rattle.spec_trees.specs.Tree.{node, bind, depth}
 use Rattle.spec_terms.specs.Term.{Term}
@@ -113,3 +114,9 @@ lifted_term-returns-in_err-whole-in-App-clause-grows g t c = Grows_trans (g.B.Ba
 
 pub lifted_term-returns-in_ok-whole-in-App-clause-grows : goal.lifted_term-returns-in_ok-whole-in-App-clause-grows
 lifted_term-returns-in_ok-whole-in-App-clause-grows g t c = Grows_trans (g.B.Bank.trees c.args.bank.now) (g.B.Bank.trees c.lifted_terms.new.bank) (g.B.Bank.trees c.app.new.self) c.lifted_terms.ensures.grows c.app.ensures.grows
+
+pub lifted_terms-each-init : goal.lifted_terms-each-init
+lifted_terms-each-init g t c = grind (arith, common_steps)
+
+pub lifted_terms-returns-in_err-items-clause-grows : goal.lifted_terms-returns-in_err-items-clause-grows
+lifted_terms-returns-in_err-items-clause-grows g t c = grind (arith, common_steps)

@@ -1,4 +1,5 @@
-use Rattle.std.proofs.Common.{◌≡◌, ◌∙◌, sym, ap, rules}
+use Rattle.std.proofs.Common.{◌≡◌, ◌∙◌, sym, ap, rules, arith}
+use Rattle.std.proofs.lemmas.Grind.{common_steps}
 use Rattle.spec_clauses.specs.Fact.{terms_of}
 use Rattle.spec_clauses.specs.Head.{head_of}
 use Rattle.clause_form.specs.Facts.{fact_of}
@@ -14,3 +15,6 @@ returns-clause-outcome g c =
     let same : c.head.result ≡ c.head-2.result = search rules in
     let heads : head_of (fact_of c.args.left.now) ≡ head_of (fact_of c.args.right.now) = sym c.head.ensures ∙ (ap head_seen same ∙ c.head-2.ensures) in
     terms_tell all (fact_of c.args.left.now) (fact_of c.args.right.now) _ _ _ _ lefts rights heads c.unify_lists.ensures.outcome
+
+pub unify_lists-requires-clause-lefts : goal.unify_lists-requires-clause-lefts
+unify_lists-requires-clause-lefts g c = grind (arith, common_steps)

@@ -1,4 +1,5 @@
-use Rattle.std.proofs.Common.{ap, sym, subst}
+use Rattle.std.proofs.Common.{ap, sym, subst, arith}
+use Rattle.std.proofs.lemmas.Grind.{common_steps}
 use Rattle.std.proofs.lemmas.Bool.{MatchBool-at_true, MatchBool-at_false}
 use Rattle.clause_form.specs.Facts.{fact_of}
 use Rattle.clause_form.specs.Seen.{IsClauseIn, IdClause}
@@ -52,3 +53,6 @@ returns-in_err-clause-clause-grows g c = Grows_refl (g.B.Bank.trees c.args.bank.
 
 pub unify_facts-requires-clause-ready : goal.unify_facts-requires-clause-ready
 unify_facts-requires-clause-ready g c = c.in_ok-binds.ensures.ready (g.B.Bank.trees c.args.bank.now)
+
+pub unify_facts-requires-clause-left : goal.unify_facts-requires-clause-left
+unify_facts-requires-clause-left g c = grind (arith, common_steps)

@@ -1,4 +1,5 @@
 use Rattle.std.proofs.Common.{◌≡◌, ap, sym, subst, List, map, arith, rules}
+use Rattle.std.proofs.lemmas.Grind.{common_steps}
 use Rattle.spec_clauses.specs.Fact.{Fact}
 use Rattle.term_tree.specs.declared.bank.Id.{Id}
 use Rattle.clause_form.specs.Facts.{fact_of}
@@ -66,3 +67,15 @@ back-requires-in-Err g c = omega (arith, c.mark-mark.ensures, Grows-length (g.B.
 
 pub returns-then-clash-clause-grows : goal.returns-then-clash-clause-grows
 returns-then-clash-clause-grows g c = Grows_refl (g.B.Bank.trees c.args.bank.now)
+
+pub returns-in-Ok-Clauses-clause-answer : goal.returns-in-Ok-Clauses-clause-answer
+returns-in-Ok-Clauses-clause-answer g c = grind (arith, common_steps)
+
+pub returns-in-Ok-Large-clause-answer : goal.returns-in-Ok-Large-clause-answer
+returns-in-Ok-Large-clause-answer g c = grind (arith, common_steps)
+
+pub returns-in-Ok-NoUnifier-clause-answer : goal.returns-in-Ok-NoUnifier-clause-answer
+returns-in-Ok-NoUnifier-clause-answer g c = grind (arith, common_steps)
+
+pub returns-in-Ok-Clauses-clause-low : goal.returns-in-Ok-Clauses-clause-low
+returns-in-Ok-Clauses-clause-low g c = grind (arith, common_steps)

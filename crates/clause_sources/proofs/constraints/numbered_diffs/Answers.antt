@@ -1,4 +1,5 @@
-use Rattle.std.proofs.Common.{◌∙◌, map, ap, sym}
+use Rattle.std.proofs.Common.{◌∙◌, map, ap, sym, arith}
+use Rattle.std.proofs.lemmas.Grind.{common_steps}
 use Rattle.std.proofs.lemmas.List.{take_all}
 use Rattle.std.proofs.lemmas.Simd.{map-map}
 use Rattle.spec_clauses.specs.Diff.{diff_under, numbered_diff}
@@ -11,3 +12,6 @@ returns c =
     let s = placed c.args.order.now in
     c.each.invariant ∙ (ap (map (λ d. diff_under s (numbered_diff d))) (take_all c.each.diff-index items c.each-test.false)
     ∙ (sym (map-map (diff_under s) numbered_diff items) ∙ ap (λ ds. map (diff_under s) (map numbered_diff ds)) (c.deref-diff-items.ensures.value ∙ c.diffs.view_is)))
+
+pub each-preserved : goal.each-preserved
+each-preserved c = grind (arith, common_steps)

@@ -1,4 +1,5 @@
-use Rattle.std.proofs.Common.{◌≡◌, ◌∙◌, ◌+◌, [], ◌∷◌, ◌++◌, map, filter_map, ap, sym, subst}
+use Rattle.std.proofs.Common.{◌≡◌, ◌∙◌, ◌+◌, [], ◌∷◌, ◌++◌, map, filter_map, ap, sym, subst, arith}
+use Rattle.std.proofs.lemmas.Grind.{common_steps}
 use Rattle.term_tree.proofs.BankLaws.{Grows_trans}
 use Rattle.clause_form.specs.Seen.{clause_at, IsClauseIn, AreClausesIn}
 use Rattle.clause_sources.specs.Listed.{told_number}
@@ -33,3 +34,6 @@ pub returns-clause-told : goal.returns-clause-told
 returns-clause-told g c =
     let old = g.B.Bank.trees c.args.bank.now in
     c.each.invariant.told ∙ numbered_all (clause_at old) told_number c.deref-part-items.result.now (map (clause_at old) c.args.parts.now) c.each.index c.each-test.false (ap (map (clause_at old)) (c.deref-part-items.ensures.value ∙ c.parts.view_is))
+
+pub returns-in_err-add_told-clause-grows : goal.returns-in_err-add_told-clause-grows
+returns-in_err-add_told-clause-grows g c = grind (arith, common_steps)

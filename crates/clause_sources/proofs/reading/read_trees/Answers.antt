@@ -11,3 +11,6 @@ each-preserved g c = grind (arith, common_steps)
 
 pub returns : goal.returns
 returns g c = grind (arith, common_steps)
+
+pub each-init : goal.each-init
+each-init g c = grind (arith, common_steps)

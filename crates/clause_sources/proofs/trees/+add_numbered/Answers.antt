@@ -1,4 +1,5 @@
-use Rattle.std.proofs.Common.{◌≡◌, ◌∙◌, [], ◌∷◌, ◌++◌, OnOk, map, ap, subst}
+use Rattle.std.proofs.Common.{◌≡◌, ◌∙◌, [], ◌∷◌, ◌++◌, OnOk, map, ap, subst, arith}
+use Rattle.std.proofs.lemmas.Grind.{common_steps}
 use Rattle.std.proofs.lemmas.List.{take_all}
 use Rattle.spec_trees.specs.Tree.{bind}
 use Rattle.spec_terms.specs.Term.{Term}
@@ -18,3 +19,6 @@ returns-after-each t c =
     let whole = bind_app s c.args.tree.now c.in-App.symbol c.in-App.arguments items c.each.items.items c.in-App.is (ap (map term_of) c.deref-argument-items.ensures.value ∙ c.arguments.view_is)
     (c.each.invariant ∙ ap (map (λ u. bind s (term_of u))) (take_all c.each.argument-index items c.each-test.false)) in
     subst (λ (u : Term). OnOk c.add_applied.result (map term_of c.add_applied.new.made.items ≡ map term_of c.args.made.now.items ++ u ∷ [])) whole c.add_applied.ensures
+
+pub each-init : goal.each-init
+each-init t c = grind (arith, common_steps)

@@ -1,4 +1,5 @@
-use Rattle.std.proofs.Common.{◌∙◌, map, ap, sym}
+use Rattle.std.proofs.Common.{◌∙◌, map, ap, sym, arith}
+use Rattle.std.proofs.lemmas.Grind.{common_steps}
 use Rattle.std.proofs.lemmas.List.{take_all}
 use Rattle.std.proofs.lemmas.Simd.{map-map}
 use Rattle.spec_clauses.specs.Fact.{fact_under}
@@ -12,3 +13,9 @@ returns c =
     let s = by_numbers c.args.numbers.now in
     c.each.invariant ∙ (ap (map (λ f. fact_under s (plain_fact_of f))) (take_all c.each.fact-index items c.each-test.false)
     ∙ (sym (map-map (fact_under s) plain_fact_of items) ∙ ap (map (fact_under s)) (ap (map plain_fact_of) c.deref-fact-items.ensures.value ∙ c.facts.view_is)))
+
+pub each-preserved : goal.each-preserved
+each-preserved c = grind (arith, common_steps)
+
+pub each-init : goal.each-init
+each-init c = grind (arith, common_steps)

@@ -1,4 +1,5 @@
-use Rattle.std.proofs.Common.{◌∙◌, map, ap, sym}
+use Rattle.std.proofs.Common.{◌∙◌, map, ap, sym, arith}
+use Rattle.std.proofs.lemmas.Grind.{common_steps}
 use Rattle.std.proofs.lemmas.List.{take_all}
 use Rattle.std.proofs.lemmas.Simd.{map-map}
 use Rattle.spec_trees.specs.Tree.{bind}
@@ -17,3 +18,6 @@ returns c =
     let s = by_numbers c.args.numbers.now in
     c.each.invariant ∙ (ap (map (λ u. bind s (term_of u))) (take_all c.each.tree-index items c.each-test.false)
     ∙ (sym (map-map (bind s) term_of items) ∙ ap (map (bind s)) (ap (map term_of) c.deref-tree-items.ensures.value ∙ c.trees.view_is)))
+
+pub each-init : goal.each-init
+each-init c = grind (arith, common_steps)

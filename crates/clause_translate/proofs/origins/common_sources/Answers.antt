@@ -1,4 +1,5 @@
-use Rattle.std.proofs.Common.{◌∙◌, Option, Some, false, ℕ, sym, refl, subst}
+use Rattle.std.proofs.Common.{◌∙◌, Option, Some, false, ℕ, sym, refl, subst, arith}
+use Rattle.std.proofs.lemmas.Grind.{common_steps}
 use Rattle.spec_calculus.specs.Bounds.{most_visits}
 use Rattle.spec_translation.specs.Visit.{first_visit}
 use Rattle.pi_tree.specs.Protocols.{protocol_of}
@@ -34,3 +35,9 @@ returns-clause-sources g c =
     let before : Listing = record { clauses = c.new.result.items; left = most_visits; keeps = false; choices = c.no_choices.result; sources = Some c.in_ok-known.known } in
     before_goal P before c.visit_main.new.listing c.in_ok-known.known c.in-Some-take.sources refl c.no_choices.ensures c.in_ok-known.ensures.tells (sym c.take.ensures.value ∙ c.in-Some-take.is)
     (subst (λ (o : Option ℕ). Tells P P.main 1 first_visit before c.visit_main.new.listing o) c.in-None.is c.in_ok-visit_main.ensures.tells)
+
+pub returns-clause-grows : goal.returns-clause-grows
+returns-clause-grows g c = grind (arith, common_steps)
+
+pub returns-in_err-known-clause-grows : goal.returns-in_err-known-clause-grows
+returns-in_err-known-clause-grows g c = grind (arith, common_steps)

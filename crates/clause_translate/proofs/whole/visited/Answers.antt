@@ -1,4 +1,5 @@
-use Rattle.std.proofs.Common.{ℕ, Option, None, true, refl, subst}
+use Rattle.std.proofs.Common.{ℕ, Option, None, true, refl, subst, arith}
+use Rattle.std.proofs.lemmas.Grind.{common_steps}
 use Rattle.spec_calculus.specs.Bounds.{most_visits}
 use Rattle.pi_tree.specs.Protocols.{protocol_of}
 use Rattle.term_tree.proofs.BankLaws.{Grows_trans}
@@ -27,3 +28,6 @@ returns-in-Some-2-clause-grows g c = Grows_trans (g.B.Bank.trees c.args.bank.now
 
 pub returns-in-None-2-clause-grows : goal.returns-in-None-2-clause-grows
 returns-in-None-2-clause-grows g c = Grows_trans (g.B.Bank.trees c.args.bank.now) (g.B.Bank.trees c.first_large.new.bank) (g.B.Bank.trees c.visit_main.new.bank) c.first_large.ensures.grows c.visit_main.ensures.grows
+
+pub returns-in-Some-2-clause-visits : goal.returns-in-Some-2-clause-visits
+returns-in-Some-2-clause-visits g c = grind (arith, common_steps)

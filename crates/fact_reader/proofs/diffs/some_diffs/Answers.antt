@@ -1,4 +1,5 @@
-use Rattle.std.proofs.Common.{◌∙◌}
+use Rattle.std.proofs.Common.{◌∙◌, arith}
+use Rattle.std.proofs.lemmas.Grind.{common_steps}
 use Rattle.fact_reader.proofs.Rounds.{viewed_on, viewed_end, row_out, told_on}
 use Rattle.fact_reader.proofs.diffs.some_diffs.Goals as goal
 
@@ -18,3 +19,6 @@ loop-round-preserved g c = record {
 
 pub returns-clause-read : goal.returns-clause-read
 returns-clause-read g c = row_out _ _ _ _ _ _ _ c.loop-round.invariant.read c.loop-round-test.false
+
+pub loop-round-init : goal.loop-round-init
+loop-round-init g c = grind (arith, common_steps)

@@ -1,4 +1,5 @@
-use Rattle.std.proofs.Common.{◌≡◌, ◌∙◌, ap, List, sym, subst, map, refl, Ok, None, []}
+use Rattle.std.proofs.Common.{◌≡◌, ◌∙◌, ap, List, sym, subst, map, refl, Ok, None, [], arith}
+use Rattle.std.proofs.lemmas.Grind.{common_steps}
 use Rattle.spec_clauses.specs.Fact as horn
 use Rattle.spec_placements.specs.Placing.{NoFactMatch}
 use Rattle.term_tree.specs.declared.bank.Id.{Id}
@@ -114,3 +115,9 @@ pub returns-in_ok-loose-in-Some-clause-subsumes : goal.returns-in_ok-loose-in-So
 returns-in_ok-loose-in-Some-clause-subsumes g c =
     let all = g.B.Bank.trees c.args.bank.now in
     subsumes_told (clause_at all c.args.general.now) (clause_at all c.args.special.now) c.first_row.result c.requires.normal (returns-in_ok-loose-in-Some-clause-row g c)
+
+pub first_row-requires-clause-placing : goal.first_row-requires-clause-placing
+first_row-requires-clause-placing g c = grind (arith, common_steps)
+
+pub first_row-requires-clause-facts : goal.first_row-requires-clause-facts
+first_row-requires-clause-facts g c = grind (arith, common_steps)

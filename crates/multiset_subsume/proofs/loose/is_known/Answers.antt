@@ -7,3 +7,6 @@ returns-then-known-phase g c = grind (arith, common_steps)
 
 pub returns-else-known-phase : goal.returns-else-known-phase
 returns-else-known-phase g c = grind (arith, common_steps)
+
+pub returns-in_default : goal.returns-in_default
+returns-in_default g c = grind (arith, common_steps)

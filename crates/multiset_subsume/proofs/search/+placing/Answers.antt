@@ -126,3 +126,6 @@ can_stand-returns-then-not-branch-clause-outcome g t c = cannot_stand (g.B.Bank.
 
 pub can_stand-returns-then-not-branch-clause-same : goal.can_stand-returns-then-not-branch-clause-same
 can_stand-returns-then-not-branch-clause-same g t c = c.in_ok-put.ensures.refused c.if-not-branch.true
+
+pub place_beside-returns-in-Some-clause-outcome : goal.place_beside-returns-in-Some-clause-outcome
+place_beside-returns-in-Some-clause-outcome g t c = grind (arith, common_steps)

@@ -33,3 +33,6 @@ overflow_add-at c = grind (arith, common_steps, of_fail, of_points)
 
 pub point_after-requires : goal.point_after-requires
 point_after-requires c = grind (arith, common_steps, of_fail, of_points)
+
+pub returns-then-some_large_at-clause-refused : goal.returns-then-some_large_at-clause-refused
+returns-then-some_large_at-clause-refused c = grind (arith, common_steps)

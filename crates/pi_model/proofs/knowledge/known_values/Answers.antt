@@ -10,3 +10,6 @@ returns c = grind (arith, common_steps)
 
 pub returns-in-None : goal.returns-in-None
 returns-in-None c = grind (arith, common_steps)
+
+pub loop-number-init : goal.loop-number-init
+loop-number-init c = grind (arith, common_steps)

@@ -6,3 +6,6 @@ use Rattle.pi_model.proofs.processes.copy.Goals as goal
 
 pub overflow_add-begun : goal.overflow_add-begun
 overflow_add-begun c = grind (arith, common_steps, of_copy, of_points)
+
+pub returns-in_ok-copy-in-Copies-clause-possible : goal.returns-in_ok-copy-in-Copies-clause-possible
+returns-in_ok-copy-in-Copies-clause-possible c = grind (arith, common_steps)

@@ -6,3 +6,6 @@ use Rattle.pi_model.proofs.processes.make.Goals as goal
 
 pub overflow_add-result : goal.overflow_add-result
 overflow_add-result c = grind (arith, common_steps, of_make, of_points)
+
+pub returns-in_ok-bind-in-New-clause-possible : goal.returns-in_ok-bind-in-New-clause-possible
+returns-in_ok-bind-in-New-clause-possible c = grind (arith, common_steps)

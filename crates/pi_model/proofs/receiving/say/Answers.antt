@@ -6,3 +6,6 @@ use Rattle.pi_model.proofs.receiving.say.Goals as goal
 
 pub received-requires : goal.received-requires
 received-requires c = grind (arith, common_steps, of_say, of_points)
+
+pub returns-in_ok-thread-in-Input-clause-possible : goal.returns-in_ok-thread-in-Input-clause-possible
+returns-in_ok-thread-in-Input-clause-possible c = grind (arith, common_steps)

@@ -31,3 +31,6 @@ mark-requires-in-names-clause-within c = grind (arith, common_steps)
 
 pub returns-in_err-behind-clause-read : goal.returns-in_err-behind-clause-read
 returns-in_err-behind-clause-read c = grind (arith, list_first_faults, step_fault)
+
+pub returns-in_err-end-2-clause-read : goal.returns-in_err-end-2-clause-read
+returns-in_err-end-2-clause-read c = grind (arith, common_steps)

@@ -20,3 +20,9 @@ returns-in_err-message-clause-read c = grind (arith, common_steps)
 
 pub mark-requires-then-is_at-clause-within : goal.mark-requires-then-is_at-clause-within
 mark-requires-then-is_at-clause-within c = grind (arith, common_steps)
+
+pub returns-in_ok-phase-2-clause-within : goal.returns-in_ok-phase-2-clause-within
+returns-in_ok-phase-2-clause-within c = grind (arith, common_steps)
+
+pub returns-in_ok-phase-clause-within : goal.returns-in_ok-phase-clause-within
+returns-in_ok-phase-clause-within c = grind (arith, common_steps)

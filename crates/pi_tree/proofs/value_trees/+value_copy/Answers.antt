@@ -8,3 +8,6 @@ Values::copy-loop-value-preserved t c = grind (arith, common_steps)
 
 pub Values::copy-returns : goal.Values::copy-returns
 Values::copy-returns t c = grind (arith, common_steps)
+
+pub Value::copy-returns-in_ok-copy-in-App : goal.Value::copy-returns-in_ok-copy-in-App
+Value::copy-returns-in_ok-copy-in-App t c = grind (arith, common_steps)

@@ -1,4 +1,5 @@
 use Rattle.std.proofs.Common.{Vec, Global, ◌∙◌, ◌+◌, ◌/◌, ◌%◌, ℕ, length, map, drop, ap, sym, arith}
+use Rattle.std.proofs.lemmas.Grind.{common_steps}
 use Rattle.spec_calculus.specs.Matching.{rules_of}
 use Rattle.term_values.specs.Instructions.{instruction_of}
 use Rattle.unified_visits.specs.Places.{protocol_at}
@@ -49,3 +50,9 @@ each-preserved c =
           (call_taken P whole all i c.instruction-item.result c.args.number c.each.left c.each.rest c.each.rules.items c.each-test.true c.instruction-item.is c.each.invariant w.in-Some.destructor (length found) (sym c.destructor_of.ensures ∙ w.in-Some.is) counted
           w.push.new.self.items w.in_ok-push-in-Some.ensures.items)
     ]
+
+pub nonzero_rem-rest : goal.nonzero_rem-rest
+nonzero_rem-rest c = grind (arith, common_steps)
+
+pub nonzero_div-rule : goal.nonzero_div-rule
+nonzero_div-rule c = grind (arith, common_steps)

@@ -1,4 +1,5 @@
 use Rattle.std.proofs.Common.{◌∙◌, map, ap, arith}
+use Rattle.std.proofs.lemmas.Grind.{common_steps}
 use Rattle.std.proofs.lemmas.Result.{IfOk-weaker}
 use Rattle.clause_form.specs.Seen.{clause_at}
 use Rattle.log_entries.specs.Plain.{plain_entry}
@@ -41,3 +42,9 @@ returns-in_ok-entries-in-Unsatisfied-clause-answers g c =
     IfOk-weaker c.unsatisfied.result (λ answer. TellsUnmet c.args.question.now c.in_ok-entries-in-Unsatisfied.entries c.in-Unsatisfied.number answer) (λ answer. Answers c.args.question.now answer)
     (λ answer told. unmet_answer c.args.question.now (g.B.Bank.trees c.args.bank.now) (g.B.Bank.trees c.certify_with.new.bank) c.args.given.now c.args.log.now c.in_ok-cert.field-0 c.in-Unsatisfied.number c.in_ok-entries-in-Unsatisfied.entries answer
     c.in_ok-cert.ensures.verdict c.in-Unsatisfied.is c.requires.log c.certify_with.ensures.bank c.in_ok-entries-in-Unsatisfied.ensures told) c.unsatisfied.ensures
+
+pub certify_with-requires-clause-translation : goal.certify_with-requires-clause-translation
+certify_with-requires-clause-translation g c = grind (arith, common_steps)
+
+pub read_log-requires : goal.read_log-requires
+read_log-requires g c = grind (arith, common_steps)

@@ -1,4 +1,5 @@
-use Rattle.std.proofs.Common.{List, sym, subst}
+use Rattle.std.proofs.Common.{List, sym, subst, arith}
+use Rattle.std.proofs.lemmas.Grind.{common_steps}
 use Rattle.spec_terms.specs.Term.{Term}
 use Rattle.spec_clauses.specs.Fact.{Clause}
 use Rattle.clause_form.proofs.Fit.{named_fit}
@@ -30,3 +31,6 @@ ended-answer-requires-clause-log g c =
     let old = g.B.Bank.trees c.args.bank.now in
     let new = g.B.Bank.trees c.saturate.new.bank in
     subst (λ (cs : List (Clause Term)). IsLogOf new cs c.args.question.now.budget c.in_ok-saturated.saturated) (sym (same_later old new c.args.given.now c.saturate.ensures.grows c.requires.given.names.known)) c.in_ok-saturated.ensures.log
+
+pub returns-clause-grows : goal.returns-clause-grows
+returns-clause-grows g c = grind (arith, common_steps)

@@ -1,4 +1,5 @@
-use Rattle.std.proofs.Common.{map, subst}
+use Rattle.std.proofs.Common.{map, subst, arith}
+use Rattle.std.proofs.lemmas.Grind.{common_steps}
 use Rattle.clause_form.specs.Seen.{clause_at}
 use Rattle.log_entries.specs.declared.log.Saturated.{Saturated}
 use Rattle.log_entries.specs.Logs.{IsLogOf}
@@ -22,3 +23,6 @@ returns-in_ok-entries-in-Large-clause-answers g c =
 
 pub closed-requires-clause-kept : goal.closed-requires-clause-kept
 closed-requires-clause-kept g c = c.none_known-known.ensures.known (g.B.Bank.trees c.args.bank.now)
+
+pub closed-requires-clause-log : goal.closed-requires-clause-log
+closed-requires-clause-log g c = grind (arith, common_steps)

@@ -1,4 +1,5 @@
-use Rattle.std.proofs.Common.{List, map, sym, subst}
+use Rattle.std.proofs.Common.{List, map, sym, subst, arith}
+use Rattle.std.proofs.lemmas.Grind.{common_steps}
 use Rattle.pi_tree.specs.Protocols.{protocol_of}
 use Rattle.clause_form.specs.Seen.{clause_at, AreClausesIn, IdClause}
 use Rattle.clause_saturate.specs.declared.common.Begun.{Begun}
@@ -51,3 +52,6 @@ settled_verdicts-requires-in-Large-clause-settled g c =
     let new = g.B.Bank.trees c.begin.new.bank in
     let given = c.args.given.now in
     (map (clause_at old) given, named_common (protocol_of c.args.asking.now.protocol.now) old given c.requires.given, subst (λ (b : Begun). IsBegun new (shared_of old given c.args.asking.now.budget) b) c.in-Large.is c.in_ok-common.ensures.begun)
+
+pub returns-in_ok-known-in-Ready-clause-grows : goal.returns-in_ok-known-in-Ready-clause-grows
+returns-in_ok-known-in-Ready-clause-grows g c = grind (arith, common_steps)

@@ -1,4 +1,5 @@
-use Rattle.std.proofs.Common.{◌≡◌, ◌∙◌, List, ap, sym, subst}
+use Rattle.std.proofs.Common.{◌≡◌, ◌∙◌, List, ap, sym, subst, arith}
+use Rattle.std.proofs.lemmas.Grind.{common_steps}
 use Rattle.clause_saturate.specs.Common.{Shared}
 use Rattle.clause_translate.specs.Whole.{TranslatesTo}
 use Rattle.query_verify.specs.Asked.{protocol_at}
@@ -43,3 +44,12 @@ pub returns-clause-kept : goal.returns-clause-kept
 returns-clause-kept g c =
     kept_back (g.B.Bank.trees c.args.bank.now) (g.B.Bank.trees c.with_goal.new.bank) c.args.sharing.now.known c.gone_on-answer.new.sharing.known c.gone_on-answer.result (c.known_rows_outlast_growth.ensures.back _ _)
     c.in_ok-all.ensures.grows c.requires.1.1.1.1.1 c.gone_on-answer.ensures.live c.gone_on-answer.ensures.given c.gone_on-answer.ensures.kept
+
+pub returns-clause-grows : goal.returns-clause-grows
+returns-clause-grows g c = grind (arith, common_steps)
+
+pub returns-in_err-copied-clause-grows : goal.returns-in_err-copied-clause-grows
+returns-in_err-copied-clause-grows g c = grind (arith, common_steps)
+
+pub with_goal-requires-clause-common : goal.with_goal-requires-clause-common
+with_goal-requires-clause-common g c = grind (arith, common_steps)

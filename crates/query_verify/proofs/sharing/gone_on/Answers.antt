@@ -1,4 +1,5 @@
 use Rattle.std.proofs.Common.{◌-◌, length, sym, subst, arith}
+use Rattle.std.proofs.lemmas.Grind.{common_steps}
 use Rattle.spec_saturation.specs.Common.{with_goal}
 use Rattle.clause_form.specs.Seen.{clause_at, IdClause}
 use Rattle.clause_form.specs.Fit.{IsFit}
@@ -43,3 +44,24 @@ pub returns-clause-kept : goal.returns-clause-kept
 returns-clause-kept g c =
     kept_back (g.B.Bank.trees c.args.bank.now) (g.B.Bank.trees c.finish.new.bank) c.args.sharing.now.known c.told-answer.new.sharing.known c.told-answer.result (c.known_rows_outlast_growth.ensures.back _ _)
     c.finish.ensures.grows c.requires.1.1.1.1.1.1 c.told-answer.ensures.live c.told-answer.ensures.given c.told-answer.ensures.kept
+
+pub returns-clause-common : goal.returns-clause-common
+returns-clause-common g c = grind (arith, common_steps)
+
+pub bounds-given-given : goal.bounds-given-given
+bounds-given-given g c = grind (arith, common_steps)
+
+pub returns-in_err-goal-clause-grows : goal.returns-in_err-goal-clause-grows
+returns-in_err-goal-clause-grows g c = grind (arith, common_steps)
+
+pub overflow_sub-given : goal.overflow_sub-given
+overflow_sub-given g c = grind (arith, common_steps)
+
+pub returns-clause-begun : goal.returns-clause-begun
+returns-clause-begun g c = grind (arith, common_steps)
+
+pub returns-clause-grows : goal.returns-clause-grows
+returns-clause-grows g c = grind (arith, common_steps)
+
+pub returns-clause-size : goal.returns-clause-size
+returns-clause-size g c = grind (arith, common_steps)

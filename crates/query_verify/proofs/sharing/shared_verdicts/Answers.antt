@@ -1,4 +1,5 @@
 use Rattle.std.proofs.Common.{◌∙◌, ◌<◌, ◌≤◌, length, sym, subst, arith}
+use Rattle.std.proofs.lemmas.Grind.{common_steps}
 use Rattle.pi_tree.specs.Protocols.{protocol_of}
 use Rattle.clause_translate.specs.Whole.{IsCommonTo}
 use Rattle.cert_writer.specs.Known.{IsKnown}
@@ -39,3 +40,6 @@ returns-clause-answers g c =
 
 pub returns-clause-bank : goal.returns-clause-bank
 returns-clause-bank g c = c.each.invariant.bank
+
+pub each-init : goal.each-init
+each-init g c = grind (arith, common_steps)

@@ -1,4 +1,5 @@
-use Rattle.std.proofs.Common.{◌∙◌, map, ap, subst}
+use Rattle.std.proofs.Common.{◌∙◌, map, ap, subst, arith}
+use Rattle.std.proofs.lemmas.Grind.{common_steps}
 use Rattle.clause_form.specs.Seen.{clause_at}
 use Rattle.clause_saturate.specs.declared.common.End.{End}
 use Rattle.log_entries.specs.Logs.{IsLogOf}
@@ -23,3 +24,6 @@ returns-in_ok-entries-in-Large-clause-answers g c =
     let log = log_of c.args.sharing.now.common in
     pair_answer (protocol_at c.args.question.now) c.args.question.now.query budget all c.args.given.now log c.in-Large.solved c.in-Large.unsolved c.in_ok-entries-in-Large.entries c.requires.given
     (subst (λ (end : End). IsLogOf all (map (clause_at all) c.args.given.now) budget (saturated log end)) c.in-Large.is c.requires.log) (c.in_ok-entries-in-Large.ensures ∙ ap (map (plain_entry all)) c.log-in-Large.ensures)
+
+pub closed-requires-clause-log : goal.closed-requires-clause-log
+closed-requires-clause-log g c = grind (arith, common_steps)

@@ -1,4 +1,6 @@
 -- A root over its parts, and one more part.
+use Rattle.std.proofs.Common.{arith}
+use Rattle.std.proofs.lemmas.Grind.{common_steps}
 use Rattle.scope_declarations.specs.Bound.{bound_of}
 use Rattle.scope_check.specs.Extents.{root_of, rules_at}
 use Rattle.scope_declarations.specs.Scope.{scope_of}
@@ -21,3 +23,21 @@ parts-loop-sketch-preserved t c = record {
       (seen expression_of c.loop-sketch.items.items c.push.new.self.items c.in_ok-item.item c.in_ok-push.ensures.items) c.loop-sketch.invariant.counted c.in_ok-item.ensures.counted
       c.combined-extent.ensures.symbols c.combined-extent.ensures.applications c.combined-extent.ensures.choices;
 }
+
+pub parts-returns-in_err-item-clause-read : goal.parts-returns-in_err-item-clause-read
+parts-returns-in_err-item-clause-read t c = grind (arith, common_steps)
+
+pub parts-returns-clause-read : goal.parts-returns-clause-read
+parts-returns-clause-read t c = grind (arith, common_steps)
+
+pub part-returns-in_err-whole-in-Named-clause-read : goal.part-returns-in_err-whole-in-Named-clause-read
+part-returns-in_err-whole-in-Named-clause-read t c = grind (arith, common_steps)
+
+pub part-returns-in_ok-whole-in-Named-clause-read : goal.part-returns-in_ok-whole-in-Named-clause-read
+part-returns-in_ok-whole-in-Named-clause-read t c = grind (arith, common_steps)
+
+pub part-returns-in_err-arguments-in-Named-clause-read : goal.part-returns-in_err-arguments-in-Named-clause-read
+part-returns-in_err-arguments-in-Named-clause-read t c = grind (arith, common_steps)
+
+pub parts-loop-sketch-init : goal.parts-loop-sketch-init
+parts-loop-sketch-init t c = grind (arith, common_steps)

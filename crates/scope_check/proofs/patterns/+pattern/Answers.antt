@@ -27,3 +27,12 @@ pattern-returns-in_ok-arguments-in-Named-clause-read t c = grind (arith, common_
 
 pub pattern-returns-in_ok-term-in-Equal-clause-read : goal.pattern-returns-in_ok-term-in-Equal-clause-read
 pattern-returns-in_ok-term-in-Equal-clause-read t c = grind (arith, common_steps)
+
+pub pattern-returns-in_ok-patterns-in-Grouped-clause-read : goal.pattern-returns-in_ok-patterns-in-Grouped-clause-read
+pattern-returns-in_ok-patterns-in-Grouped-clause-read t c = grind (arith, common_steps)
+
+pub pattern-returns-in_ok-patterns-in-Grouped-clause-finds : goal.pattern-returns-in_ok-patterns-in-Grouped-clause-finds
+pattern-returns-in_ok-patterns-in-Grouped-clause-finds t c = grind (arith, common_steps)
+
+pub patterns-loop-sketch-init : goal.patterns-loop-sketch-init
+patterns-loop-sketch-init t c = grind (arith, common_steps)

@@ -8,3 +8,6 @@ returns c = grind (arith, common_steps)
 
 pub returns-then-len-gt-MOST_ARGUMENTS : goal.returns-then-len-gt-MOST_ARGUMENTS
 returns-then-len-gt-MOST_ARGUMENTS c = grind (arith, common_steps)
+
+pub returns-in-Some : goal.returns-in-Some
+returns-in-Some c = grind (arith, common_steps)

@@ -104,3 +104,51 @@ at_point-returns-in-If t c = grind (arith, common_steps)
 
 pub at_point-returns-in-Let : goal.at_point-returns-in-Let
 at_point-returns-in-Let t c = grind (arith, common_steps)
+
+pub at_point-retrieval-requires : goal.at_point-retrieval-requires
+at_point-retrieval-requires t c = grind (arith, common_steps)
+
+pub retrieval-same-patterns : goal.retrieval-same-patterns
+retrieval-same-patterns t c = grind (arith, common_steps)
+
+pub at_point-comparison-requires : goal.at_point-comparison-requires
+at_point-comparison-requires t c = grind (arith, common_steps)
+
+pub at_point-returns-in-Phase : goal.at_point-returns-in-Phase
+at_point-returns-in-Phase t c = grind (arith, common_steps)
+
+pub at_point-returns-in-Input : goal.at_point-returns-in-Input
+at_point-returns-in-Input t c = grind (arith, common_steps)
+
+pub at_point-returns-in-Output : goal.at_point-returns-in-Output
+at_point-returns-in-Output t c = grind (arith, common_steps)
+
+pub at_point-returns-in-Insert : goal.at_point-returns-in-Insert
+at_point-returns-in-Insert t c = grind (arith, common_steps)
+
+pub at_point-choice-requires : goal.at_point-choice-requires
+at_point-choice-requires t c = grind (arith, common_steps)
+
+pub at_point-returns-in-Happens : goal.at_point-returns-in-Happens
+at_point-returns-in-Happens t c = grind (arith, common_steps)
+
+pub at_point-returns-in-New : goal.at_point-returns-in-New
+at_point-returns-in-New t c = grind (arith, common_steps)
+
+pub at_point-returns-in-Replicated : goal.at_point-returns-in-Replicated
+at_point-returns-in-Replicated t c = grind (arith, common_steps)
+
+pub replication-returns : goal.replication-returns
+replication-returns t c = grind (arith, common_steps)
+
+pub both-process-requires : goal.both-process-requires
+both-process-requires t c = grind (arith, common_steps)
+
+pub process-returns : goal.process-returns
+process-returns t c = grind (arith, common_steps)
+
+pub replication-process-requires : goal.replication-process-requires
+replication-process-requires t c = grind (arith, common_steps)
+
+pub at_point-waiting-requires : goal.at_point-waiting-requires
+at_point-waiting-requires t c = grind (arith, common_steps)

@@ -18,3 +18,9 @@ returns-in-Par-clause-seen t c = λ before is.
 
 pub returns-in-Par-clause-behind : goal.returns-in-Par-clause-behind
 returns-in-Par-clause-behind t c = grind (arith, common_steps)
+
+pub returns-then-eq-clause-behind : goal.returns-then-eq-clause-behind
+returns-then-eq-clause-behind t c = grind (arith, common_steps)
+
+pub returns-else-eq-clause-behind : goal.returns-else-eq-clause-behind
+returns-else-eq-clause-behind t c = grind (arith, common_steps)

@@ -18,3 +18,6 @@ slice_bounds-macros-end c = grind (arith, common_steps, weight_up_to)
 
 pub returns-in_default-clause-found : goal.returns-in_default-clause-found
 returns-in_default-clause-found c = grind (arith, common_steps, weight_up_to)
+
+pub loop-form-preserved-in-Inner-1 : goal.loop-form-preserved-in-Inner-1
+loop-form-preserved-in-Inner-1 c = grind (arith, common_steps)

@@ -45,3 +45,6 @@ term-terms-requires-in-Grouped t c = grind (arith, common_steps)
 
 pub terms-loop-sketch-init : goal.terms-loop-sketch-init
 terms-loop-sketch-init t c = grind (arith, common_steps)
+
+pub term-returns-then-given-eq0-clause-counted : goal.term-returns-then-given-eq0-clause-counted
+term-returns-then-given-eq0-clause-counted t c = grind arith

@@ -5,3 +5,6 @@ use Rattle.scope_declarations.proofs.terms.grouped.Goals as goal
 
 pub returns-clause-read : goal.returns-clause-read
 returns-clause-read c = grind (arith, common_steps)
+
+pub returns-in-Some-clause-read : goal.returns-in-Some-clause-read
+returns-in-Some-clause-read c = grind (arith, common_steps)

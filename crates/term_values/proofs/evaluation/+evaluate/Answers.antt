@@ -11,3 +11,9 @@ evaluate-returns-in_ok-evaluate_all-in-Tuple t c = grind (arith, common_steps, o
 
 pub evaluate_all-returns : goal.evaluate_all-returns
 evaluate_all-returns t c = grind (arith, common_steps, of_rows)
+
+pub evaluate_all-loop-term-preserved : goal.evaluate_all-loop-term-preserved
+evaluate_all-loop-term-preserved t c = grind (arith, common_steps)
+
+pub evaluate_all-loop-term-init : goal.evaluate_all-loop-term-init
+evaluate_all-loop-term-init t c = grind (arith, common_steps)

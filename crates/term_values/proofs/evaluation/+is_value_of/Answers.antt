@@ -17,3 +17,6 @@ are_values_of-returns t c = grind (arith, common_steps, of_rows)
 
 pub are_values_of-returns-then-len-values : goal.are_values_of-returns-then-len-values
 are_values_of-returns-then-len-values t c = grind (arith, common_steps, of_rows)
+
+pub are_values_of-loop-index-preserved : goal.are_values_of-loop-index-preserved
+are_values_of-loop-index-preserved t c = grind (arith, common_steps)

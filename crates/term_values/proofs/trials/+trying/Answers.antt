@@ -1,4 +1,5 @@
 use Rattle.std.proofs.Common.{◌≡◌, ◌∙◌, ap, sym, map, take, arith}
+use Rattle.std.proofs.lemmas.Grind.{common_steps}
 use Rattle.std.specs.List.{list_any}
 use Rattle.std.proofs.lemmas.Result.{IfOk-weaker}
 use Rattle.spec_calculus.specs.Syntax.{Constructor, Tuple}
@@ -45,3 +46,6 @@ pub try_each-returns : goal.try_each-returns
 try_each-returns t c =
     whole_tried (protocol_of c.args.context.now.protocol.now) c.args.context.now.environment.now c.deref-expression-items.result.now c.loop-index.index c.args.expressions.now c.loop-index.so_far
     (omega arith) (ap (λ items. map expression_of items) c.deref-expression-items.ensures.value ∙ c.expressions.view_is) c.loop-index.invariant
+
+pub try_each-slice_bounds-with_next-end : goal.try_each-slice_bounds-with_next-end
+try_each-slice_bounds-with_next-end t c = grind (arith, common_steps)

@@ -1,4 +1,5 @@
-use Rattle.std.proofs.Common.{get_or, subst}
+use Rattle.std.proofs.Common.{get_or, subst, arith}
+use Rattle.std.proofs.lemmas.Grind.{common_steps}
 use Rattle.term_tree.proofs.BankLaws.{Grows_trans}
 use Rattle.unify_match.proofs.SeenLemmas.{IsReady-grows}
 use Rattle.spec_trees.specs.Tree.{bind}
@@ -38,3 +39,6 @@ returns-in_err-push-clause-grows g c = Grows_trans (g.B.Bank.trees c.args.bank.n
 
 pub lifted_term-requires-clause-ready : goal.lifted_term-requires-clause-ready
 lifted_term-requires-clause-ready g c = IsReady-grows (g.B.Bank.trees c.args.bank.now) (g.B.Bank.trees c.each.bank) c.args.lift.binds.now.pairs c.each.invariant.grows c.requires.ready
+
+pub returns-in_err-items-clause-grows : goal.returns-in_err-items-clause-grows
+returns-in_err-items-clause-grows g c = grind (arith, common_steps)

@@ -1,4 +1,5 @@
 use Rattle.std.proofs.Common.{◌≡◌, List, map, ap, sym, subst, ◌∙◌, arith}
+use Rattle.std.proofs.lemmas.Grind.{common_steps}
 use Rattle.spec_trees.specs.Tree.{node}
 use Rattle.spec_calculus.specs.Bounds.{most_symbols}
 use Rattle.spec_terms.specs.Binding.{resolved}
@@ -132,3 +133,9 @@ term_under-applied-requires-clause-known g t c =
     let row = rw c.in-Some-2.is at c.in_ok-terms_under-in-App.ensures.under in
     let now : c.deref-in-Some-2-2.result.now ≡ c.in-Some-2.now = c.deref-in-Some-2-2.ensures.value ∙ c.now.view_is in
     subst (λ (l : List Id). AreKnown (g.B.Bank.trees c.terms_under.new.bank) l) (sym now) row.known
+
+pub term_under-terms_under-requires : goal.term_under-terms_under-requires
+term_under-terms_under-requires g t c = grind (arith, common_steps)
+
+pub terms_under-each-init : goal.terms_under-each-init
+terms_under-each-init g t c = grind (arith, common_steps)

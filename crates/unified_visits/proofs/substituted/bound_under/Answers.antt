@@ -1,4 +1,5 @@
-use Rattle.std.proofs.Common.{sym, ◌∙◌}
+use Rattle.std.proofs.Common.{sym, ◌∙◌, arith}
+use Rattle.std.proofs.lemmas.Grind.{common_steps}
 use Rattle.unified_visits.proofs.Building.{AreBuilt-grows, built_more, applied_names}
 use Rattle.unified_visits.proofs.substituted.bound_under.Goals as goal
 
@@ -16,3 +17,6 @@ returns-in_ok-put-in-Some-2-clause-built g c =
     let pairs = c.args.binds.now.pairs in
     built_more old old new pairs c.args.built.now c.put.new.self c.args.to c.in-Some-2.made c.apply_bound.ensures.grows c.apply_bound.ensures.grows c.requires.ready c.requires.ready c.requires.known c.requires.built
     (applied_names old new pairs c.args.to c.in-Some-2.made c.in_ok-apply_bound-in-None.field-0 c.in-Some-2.is c.in_ok-apply_bound-in-None.ensures.outcome) c.in_ok-put-in-Some-2.ensures
+
+pub returns-in_ok-put-in-Some-2-clause-under : goal.returns-in_ok-put-in-Some-2-clause-under
+returns-in_ok-put-in-Some-2-clause-under g c = grind (arith, common_steps)

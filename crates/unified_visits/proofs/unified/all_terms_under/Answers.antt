@@ -1,4 +1,5 @@
-use Rattle.std.proofs.Common.{subst}
+use Rattle.std.proofs.Common.{subst, arith}
+use Rattle.std.proofs.lemmas.Grind.{common_steps}
 use Rattle.spec_terms.specs.Binding.{resolved}
 use Rattle.term_tree.specs.Bank.{Names}
 use Rattle.term_tree.proofs.BankLaws.{Grows_refl, Grows_trans}
@@ -43,3 +44,6 @@ returns-in_err-push-clause-grows g c = Grows_trans (g.B.Bank.trees c.args.bank.n
 
 pub returns-in_err-items-clause-grows : goal.returns-in_err-items-clause-grows
 returns-in_err-items-clause-grows g c = Grows_refl (g.B.Bank.trees c.args.bank.now)
+
+pub each-init : goal.each-init
+each-init g c = grind (arith, common_steps)

@@ -1,4 +1,5 @@
 use Rattle.std.proofs.Common.{◌≡◌, ◌<◌, true, ◌∙◌, List, [], ◌∷◌, sym, ap, refl, subst, arith, length}
+use Rattle.std.proofs.lemmas.Grind.{common_steps}
 use Rattle.std.proofs.lemmas.Bool.{MatchBool-at_true, MatchBool-at_false, false≢true}
 use Rattle.spec_terms.specs.Term.{Term, is_ground}
 use Rattle.term_tree.specs.Bank.{tree_at, symbol_of}
@@ -92,3 +93,33 @@ returns-after-each-clause-outcome g t c =
     let all = g.B.Bank.trees c.args.bank.now in
     matching_ends all c.args.binds.now.pairs c.each.binds.pairs (levels (tree_at all c.args.general)) c.args.general c.args.special (symbol_of c.in-App.f) (symbol_of c.in-App-node.g) c.in-App.xs.now c.in-App-node.ys.now c.each.i
     c.in-App.ensures.0 c.in-App-node.ensures.0 (ap symbol_of (c.if-not-is_same.ensures.0 refl)) (omega (arith, c.if-xs-ys.false)) c.each.invariant c.each-test.false
+
+pub returns-in_ok-reserve-in-None-clause-outcome : goal.returns-in_ok-reserve-in-None-clause-outcome
+returns-in_ok-reserve-in-None-clause-outcome g t c = grind (arith, common_steps)
+
+pub offset_bounds-ys-i : goal.offset_bounds-ys-i
+offset_bounds-ys-i g t c = grind (arith, common_steps)
+
+pub offset_bounds-xs-i : goal.offset_bounds-xs-i
+offset_bounds-xs-i g t c = grind (arith, common_steps)
+
+pub returns-then-xs-ys-clause-extends : goal.returns-then-xs-ys-clause-extends
+returns-then-xs-ys-clause-extends g t c = grind (arith, common_steps)
+
+pub returns-then-not-is_same-clause-extends : goal.returns-then-not-is_same-clause-extends
+returns-then-not-is_same-clause-extends g t c = grind (arith, common_steps)
+
+pub returns-then-not-is_same-clause-outcome : goal.returns-then-not-is_same-clause-outcome
+returns-then-not-is_same-clause-outcome g t c = grind (arith, common_steps)
+
+pub returns-then-not-same-clause-extends : goal.returns-then-not-same-clause-extends
+returns-then-not-same-clause-extends g t c = grind (arith, common_steps)
+
+pub returns-else-not-same-clause-extends : goal.returns-else-not-same-clause-extends
+returns-else-not-same-clause-extends g t c = grind (arith, common_steps)
+
+pub returns-in-Var-node-clause-extends : goal.returns-in-Var-node-clause-extends
+returns-in-Var-node-clause-extends g t c = grind (arith, common_steps)
+
+pub returns-in-Var-node-clause-outcome : goal.returns-in-Var-node-clause-outcome
+returns-in-Var-node-clause-outcome g t c = grind (arith, common_steps)

@@ -198,3 +198,15 @@ returns-in_err-push-clause-grows g t c = Grows_trans (g.B.Bank.trees c.args.bank
 
 pub returns-clause-grows : goal.returns-clause-grows
 returns-clause-grows g t c = Grows_trans (g.B.Bank.trees c.args.bank.now) (g.B.Bank.trees c.each.bank) (g.B.Bank.trees c.app.new.self) c.each.invariant.grows c.app.ensures.grows
+
+pub returns-then-count-eq0-clause-itself : goal.returns-then-count-eq0-clause-itself
+returns-then-count-eq0-clause-itself g t c = grind (arith, common_steps)
+
+pub returns-then-count-eq0-clause-names : goal.returns-then-count-eq0-clause-names
+returns-then-count-eq0-clause-names g t c = grind (arith, common_steps)
+
+pub returns-then-count-eq0-clause-unchanged : goal.returns-then-count-eq0-clause-unchanged
+returns-then-count-eq0-clause-unchanged g t c = grind (arith, common_steps)
+
+pub returns-then-count-eq0-clause-stack : goal.returns-then-count-eq0-clause-stack
+returns-then-count-eq0-clause-stack g t c = grind (arith, common_steps)

@@ -132,3 +132,54 @@ returns-in_ok-pass-in-App-App-clause-outcome g t c =
 
 pub returns-then-is_empty-clause-outcome : goal.returns-then-is_empty-clause-outcome
 returns-then-is_empty-clause-outcome g t c = grind (arith, common_steps)
+
+pub returns-in-Var-Var-clause-outcome : goal.returns-in-Var-Var-clause-outcome
+returns-in-Var-Var-clause-outcome g t c = grind (arith, common_steps)
+
+pub returns-then-a-b-clause-outcome : goal.returns-then-a-b-clause-outcome
+returns-then-a-b-clause-outcome g t c = grind (arith, common_steps)
+
+pub returns-then-has-clause-grown : goal.returns-then-has-clause-grown
+returns-then-has-clause-grown g t c = grind (arith, common_steps)
+
+pub bind_apart-requires-in_default-Var-clause-unbound : goal.bind_apart-requires-in_default-Var-clause-unbound
+bind_apart-requires-in_default-Var-clause-unbound g t c = grind (arith, common_steps)
+
+pub offset_bounds-ys-i : goal.offset_bounds-ys-i
+offset_bounds-ys-i g t c = grind (arith, common_steps)
+
+pub bind_apart-requires-clause-apart : goal.bind_apart-requires-clause-apart
+bind_apart-requires-clause-apart g t c = grind (arith, common_steps)
+
+pub offset_bounds-xs-i : goal.offset_bounds-xs-i
+offset_bounds-xs-i g t c = grind (arith, common_steps)
+
+pub bind_apart-requires-clause-unbound : goal.bind_apart-requires-clause-unbound
+bind_apart-requires-clause-unbound g t c = grind (arith, common_steps)
+
+pub returns-then-is_empty-clause-grown : goal.returns-then-is_empty-clause-grown
+returns-then-is_empty-clause-grown g t c = grind (arith, common_steps)
+
+pub returns-then-xs-ys-clause-grown : goal.returns-then-xs-ys-clause-grown
+returns-then-xs-ys-clause-grown g t c = grind (arith, common_steps)
+
+pub returns-then-not-is_same-clause-grown : goal.returns-then-not-is_same-clause-grown
+returns-then-not-is_same-clause-grown g t c = grind (arith, common_steps)
+
+pub bounds-ys-i : goal.bounds-ys-i
+bounds-ys-i g t c = grind (arith, common_steps)
+
+pub returns-in-Var-Var-clause-grown : goal.returns-in-Var-Var-clause-grown
+returns-in-Var-Var-clause-grown g t c = grind (arith, common_steps)
+
+pub returns-then-is_ground-2-clause-grown : goal.returns-then-is_ground-2-clause-grown
+returns-then-is_ground-2-clause-grown g t c = grind (arith, common_steps)
+
+pub bounds-xs-i : goal.bounds-xs-i
+bounds-xs-i g t c = grind (arith, common_steps)
+
+pub returns-then-left-right-clause-outcome : goal.returns-then-left-right-clause-outcome
+returns-then-left-right-clause-outcome g t c = grind (arith, common_steps)
+
+pub returns-then-a-b-clause-grown : goal.returns-then-a-b-clause-grown
+returns-then-a-b-clause-grown g t c = grind (arith, common_steps)

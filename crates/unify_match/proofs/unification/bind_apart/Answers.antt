@@ -1,4 +1,5 @@
-use Rattle.std.proofs.Common.{◌∙◌, ◌∷◌, sym, ap, subst, List}
+use Rattle.std.proofs.Common.{◌∙◌, ◌∷◌, sym, ap, subst, List, arith}
+use Rattle.std.proofs.lemmas.Grind.{common_steps}
 use Rattle.unify_match.specs.declared.bound.Bound.{Bound}
 use Rattle.unify_match.specs.Seen.{IsReady}
 use Rattle.unify_match.specs.Progress.{Grown}
@@ -23,3 +24,6 @@ returns-clause-grown g c =
     let pairs = c.bind.ensures.pairs ∙ ap (λ (bs : List Bound). record { var = c.args.number; id = c.args.id } ∷ bs) c.in_ok-reserve.ensures.pairs in
     subst (λ (bs : List Bound). Grown all c.args.binds.now.pairs bs) (sym pairs)
     (Grown-bind all c.args.binds.now.pairs record { var = c.args.number; id = c.args.id } c.args.var c.requires.there c.requires.is c.requires.unbound)
+
+pub returns-clause-outcome : goal.returns-clause-outcome
+returns-clause-outcome g c = grind (arith, common_steps)

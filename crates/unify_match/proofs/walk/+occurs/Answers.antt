@@ -57,3 +57,6 @@ returns-then-is_empty-clause-found g t c =
 
 pub args-2-preserved : goal.args-2-preserved
 args-2-preserved g t c = grind (arith, common_steps)
+
+pub offset_bounds-args-arg-index : goal.offset_bounds-args-arg-index
+offset_bounds-args-arg-index g t c = grind (arith, common_steps)

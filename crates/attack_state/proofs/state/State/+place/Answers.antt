@@ -1,4 +1,5 @@
 use Rattle.std.proofs.Common.{◌≡◌, ◌∙◌, ◌+◌, ℕ, Option, None, List, map, drop, get_or, sym, ap, subst, arith, drop_of_length-le}
+use Rattle.std.proofs.lemmas.Grind.{common_steps}
 use Rattle.std.proofs.lemmas.List.{get_or_default}
 use Rattle.std.proofs.lemmas.Result.{IfOk-weaker}
 use Rattle.spec_trees.specs.Tree.{node, trees}
@@ -177,3 +178,18 @@ places-returns-clause-places t c = λ st is.
     let i = c.each.term-index in
     let past = ap (λ (l : List Id). trees (map (tree_at all) l)) (drop_of_length-le ids c.each-test.false) in
     placed_end P all (trees (map (tree_at all) ids)) (trees (map (tree_at all) (drop i ids))) st c.each.items.items c.each.self past (c.each.invariant.so_far st is)
+
+pub place-made_known-requires-in-Some-3 : goal.place-made_known-requires-in-Some-3
+place-made_known-requires-in-Some-3 t c = grind (arith, common_steps)
+
+pub place-made_known-requires : goal.place-made_known-requires
+place-made_known-requires t c = grind (arith, common_steps)
+
+pub places-each-init : goal.places-each-init
+places-each-init t c = grind (arith, common_steps)
+
+pub place-places-requires : goal.place-places-requires
+place-places-requires t c = grind (arith, common_steps)
+
+pub place-places-requires-in-Tuple : goal.place-places-requires-in-Tuple
+place-places-requires-in-Tuple t c = grind (arith, common_steps)

@@ -1,4 +1,5 @@
-use Rattle.std.proofs.Common.{◌≡◌, ◌∙◌, ℕ, Bool, List, ◌+◌, map, take, drop, get_or, sym, ap, subst}
+use Rattle.std.proofs.Common.{◌≡◌, ◌∙◌, ℕ, Bool, List, ◌+◌, map, take, drop, get_or, sym, ap, subst, arith}
+use Rattle.std.proofs.lemmas.Grind.{common_steps}
 use Rattle.std.proofs.lemmas.List.{get_or_default}
 use Rattle.spec_calculus.specs.Runs.{Step}
 use Rattle.spec_attack_runs.specs.Compiling.{stepped, all_stepped}
@@ -39,3 +40,6 @@ each-preserved c =
             is = one.is;
           };
     }
+
+pub returns-clause-does : goal.returns-clause-does
+returns-clause-does c = grind (arith, common_steps)

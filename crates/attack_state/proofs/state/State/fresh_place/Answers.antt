@@ -1,4 +1,5 @@
-use Rattle.std.proofs.Common.{ℕ, Option, refl, ap, subst}
+use Rattle.std.proofs.Common.{ℕ, Option, refl, ap, subst, arith}
+use Rattle.std.proofs.lemmas.Grind.{common_steps}
 use Rattle.spec_trees.specs.Tree.{Leaf}
 use Rattle.spec_calculus.specs.Values.{AttackerName}
 use Rattle.spec_calculus.specs.Values as calculus
@@ -33,3 +34,6 @@ returns-in_ok-push-in-Some-clause-places c = λ all st known is.
       is = state_named all c.made_known.new.self c.push.new.self one.next _ (record { term = term; value = own number }) one.is c.in_ok-push-in-Some.ensures.items (c.in_ok-push-in-Some.ensures.listed one.is.names_listed)
           (record { term = record { known = (known, tt); are = refl }; value = ap (λ (x : Configuration). own x.next) is.configuration });
     }
+
+pub returns-in_ok-push-in-Some-clause-run : goal.returns-in_ok-push-in-Some-clause-run
+returns-in_ok-push-in-Some-clause-run c = grind (arith, common_steps)

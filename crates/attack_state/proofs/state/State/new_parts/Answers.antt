@@ -1,4 +1,5 @@
-use Rattle.std.proofs.Common.{◌≡◌, ◌∙◌, ◌+◌, Bool, List, length, map, sym, ap, subst}
+use Rattle.std.proofs.Common.{◌≡◌, ◌∙◌, ◌+◌, Bool, List, length, map, sym, ap, subst, arith}
+use Rattle.std.proofs.lemmas.Grind.{common_steps}
 use Rattle.std.proofs.lemmas.Result.{IfOk-weaker}
 use borrow.Author.Tests.{ltb-true, ltb-false}
 use Rattle.spec_calculus.specs.Runs.{Configuration, Step}
@@ -58,3 +59,12 @@ returns-clause-does c = λ all st is.
     let same : with_parts P before st ≡ all_stepped P (map part_step parts) st = ap (λ (steps : List Step). all_stepped P steps st) steps in
     let f = all_stepped P (map part_step parts) in
     IfOk-weaker c.all_parts.result (Does f st all c.all_parts.new.self) (Does (with_parts P before) st all c.all_parts.new.self) (λ b. does_same f (with_parts P before) st all c.all_parts.new.self same b) (c.all_parts.ensures.does all st is)
+
+pub overflow_add-place : goal.overflow_add-place
+overflow_add-place c = grind (arith, common_steps)
+
+pub overflow_cast-place : goal.overflow_cast-place
+overflow_cast-place c = grind (arith, common_steps)
+
+pub add_parts-requires-clause-room : goal.add_parts-requires-clause-room
+add_parts-requires-clause-room c = grind (arith, common_steps)

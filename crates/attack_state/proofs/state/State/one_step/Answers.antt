@@ -1,4 +1,5 @@
 use Rattle.std.proofs.Common.{◌∙◌, ◌++◌, [], ◌∷◌, length, refl, ap, arith, length-append}
+use Rattle.std.proofs.lemmas.Grind.{common_steps}
 use Rattle.pi_tree.specs.Protocols.{protocol_of}
 use Rattle.pi_configurations.specs.Configurations.{configuration_of}
 use Rattle.pi_model.specs.Steps.{step_of}
@@ -25,3 +26,9 @@ returns-in-Ok-clause-does c = λ all st is.
       gives = stepped_done (protocol_of c.args.protocol.now) st (step_of c.args.step) (configuration_of old.conf) d is.configuration c.in-Ok.ensures.after c.in-Ok.ensures.allowed;
       is = state_stepped all old _ st c.args.step is c.in_ok-push-in-Ok.ensures.items refl refl refl;
     }
+
+pub returns-then-len-ge-MOST_STEPS-clause-does : goal.returns-then-len-ge-MOST_STEPS-clause-does
+returns-then-len-ge-MOST_STEPS-clause-does c = grind (arith, common_steps)
+
+pub returns-in-Err-Refused-clause-does : goal.returns-in-Err-Refused-clause-does
+returns-in-Err-Refused-clause-does c = grind (arith, common_steps)

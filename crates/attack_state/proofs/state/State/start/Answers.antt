@@ -21,3 +21,6 @@ returns-clause-run c =
       room = c.requires.frees;
       points = c.requires.points;
     }
+
+pub returns-clause-state : goal.returns-clause-state
+returns-clause-state c = grind arith

@@ -1,4 +1,5 @@
 use Rattle.std.proofs.Common.{◌≡◌, ◌∙◌, Bool, length, map, sym, ap, subst, arith}
+use Rattle.std.proofs.lemmas.Grind.{common_steps}
 use Rattle.std.proofs.lemmas.List.{length-map}
 use Rattle.std.proofs.lemmas.Result.{IfOk-weaker}
 use Rattle.spec_calculus.specs.Runs.{Configuration}
@@ -39,3 +40,6 @@ returns-clause-does c = λ all st is.
     let one = subst (λ (b : Bool). Does (stepped P step) st all c.one_step.new.self b) c.if-not-branch.false (c.in_ok-one_step.ensures.does all st is) in
     IfOk-weaker c.new_parts.result (Does (with_parts P before) one.next all new) (Does (take_step P step) st all new)
     (λ b. does_behind (with_parts P before) (take_step P step) (stepped P step st) st one.next all new (take_step-is P step st before count) one.gives b) (c.new_parts.ensures.does all one.next one.is)
+
+pub new_parts-requires : goal.new_parts-requires
+new_parts-requires c = grind (arith, common_steps)

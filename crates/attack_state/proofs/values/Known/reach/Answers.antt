@@ -1,4 +1,5 @@
 use Rattle.std.proofs.Common.{◌≡◌, ◌<◌, ◌∙◌, ℕ, Some, List, length, map, get_or, refl, sym, ap, subst, arith}
+use Rattle.std.proofs.lemmas.Grind.{common_steps}
 use Rattle.std.proofs.lemmas.List.{length-map, get_or-map}
 use Rattle.spec_calculus.specs.Values as calculus
 use Rattle.fact_classes.specs.Classes.{IsClassListed}
@@ -18,3 +19,6 @@ each-preserved c =
     let is : v ≡ get_or known count v = ap value_of c.index.ensures ∙ (sym there ∙ ap (λ (vs : List calculus.Value). get_or vs count v) c.known.view_is) in
     let more = subst (λ (k : ℕ). IsClassListed (Some k) count c.each.self.classes c.push.new.self) c.value_key-class.ensures.key c.in_ok-push.ensures in
     knows_more known c.each.self _ v is (omega (arith, within, long)) refl more c.each.invariant
+
+pub each-smaller : goal.each-smaller
+each-smaller c = grind (arith, common_steps)

@@ -1,4 +1,5 @@
 use Rattle.std.proofs.Common.{◌≡◌, ◌∙◌, map, get_or, sym, arith}
+use Rattle.std.proofs.lemmas.Grind.{common_steps}
 use Rattle.std.proofs.lemmas.List.{get_or_default}
 use Rattle.term_tree.specs.declared.bank.Id.{Id}
 use Rattle.pi_tree.specs.Values.{value_of}
@@ -35,3 +36,15 @@ add_values-each-preserved t c = λ names named listing.
 pub add_values-returns : goal.add_values-returns
 add_values-returns t c = λ names named listing.
     sym (c.each.invariant names named listing) ∙ all_added names c.args.bank.now c.args.terms.now c.each.term-index (map value_of c.each.made.items) c.each-test.false
+
+pub add_value-returns-then-not-branch : goal.add_value-returns-then-not-branch
+add_value-returns-then-not-branch t c = grind (arith, common_steps)
+
+pub add_value-returns-else-not-branch : goal.add_value-returns-else-not-branch
+add_value-returns-else-not-branch t c = grind (arith, common_steps)
+
+pub add_value-add_values-requires : goal.add_value-add_values-requires
+add_value-add_values-requires t c = grind (arith, common_steps)
+
+pub add_value-returns-in-Var : goal.add_value-returns-in-Var
+add_value-returns-in-Var t c = grind (arith, common_steps)

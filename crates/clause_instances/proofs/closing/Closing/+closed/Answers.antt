@@ -1,4 +1,5 @@
-use Rattle.std.proofs.Common.{◌≡◌, ◌∙◌, map, ap, rules}
+use Rattle.std.proofs.Common.{◌≡◌, ◌∙◌, map, ap, rules, arith}
+use Rattle.std.proofs.lemmas.Grind.{common_steps}
 use Rattle.spec_trees.specs.Tree.{bind}
 use Rattle.term_tree.proofs.BankLaws.{Grows_trans, Grows_refl}
 use Rattle.clause_diffs.specs.declared.plain.Tree.{Tree}
@@ -36,3 +37,12 @@ returns-after-each-clause-is g t c = λ s closes.
     let items_are : map term_of items ≡ c.in-App.arguments = ap (map term_of) c.deref-argument-items.ensures.value ∙ c.arguments.view_is in
     let is = closed_node s c.args.tree.now c.in-App.symbol c.in-App.arguments items (map (tree_at now) c.deref.result.now) c.in-App.is items_are ids_are in
     named_is (g.B.Bank.trees c.app.new.self) c.app.result _ _ is c.app.ensures.names
+
+pub returns-after-each-clause-known : goal.returns-after-each-clause-known
+returns-after-each-clause-known g t c = grind (arith, common_steps)
+
+pub app-requires : goal.app-requires
+app-requires g t c = grind (arith, common_steps)
+
+pub returns-in-Some-clause-is : goal.returns-in-Some-clause-is
+returns-in-Some-clause-is g t c = grind (arith, common_steps)

@@ -1,4 +1,5 @@
-use Rattle.std.proofs.Common.{◌∙◌, map, ap}
+use Rattle.std.proofs.Common.{◌∙◌, map, ap, arith}
+use Rattle.std.proofs.lemmas.Grind.{common_steps}
 use Rattle.clause_diffs.specs.Plain.{term_of}
 use Rattle.term_tree.proofs.BankLaws.{AreKnown-grows}
 use Rattle.clause_instances.proofs.Closes.{Closes-grows, adds_alone, both_named, both_large}
@@ -30,3 +31,15 @@ returns-clause-closed g c = λ s closes.
     let lefts = adds_alone old now s (map term_of c.deref.result.now) c.args.lefts.now c.no_ids-first.result c.add_closed.new.made c.in_ok-small.small c.no_ids-first.ensures (ap (map term_of) c.deref.ensures.value ∙ c.lefts.view_is) (c.in_ok-small.ensures.adds s closes) in
     let rights = adds_alone now next s (map term_of c.deref-2.result.now) c.args.rights.now c.no_ids-second.result c.add_closed-2.new.made c.in_ok-fits.fits c.no_ids-second.ensures (ap (map term_of) c.deref-2.ensures.value ∙ c.rights.view_is) (c.in_ok-fits.ensures.adds s later) in
     both_large old now next s c.args.lefts.now c.args.rights.now c.add_closed.new.made c.add_closed-2.new.made c.in_ok-small.small c.in_ok-fits.fits lefts rights c.if-small-fits.false
+
+pub returns-in_err-fits-clause-grows : goal.returns-in_err-fits-clause-grows
+returns-in_err-fits-clause-grows g c = grind (arith, common_steps)
+
+pub returns-then-small-fits-clause-grows : goal.returns-then-small-fits-clause-grows
+returns-then-small-fits-clause-grows g c = grind (arith, common_steps)
+
+pub returns-clause-grows : goal.returns-clause-grows
+returns-clause-grows g c = grind (arith, common_steps)
+
+pub add_closed-requires-2-clause-known : goal.add_closed-requires-2-clause-known
+add_closed-requires-2-clause-known g c = grind (arith, common_steps)

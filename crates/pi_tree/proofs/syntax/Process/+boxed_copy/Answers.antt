@@ -29,3 +29,6 @@ returns-in_ok-next-in-Phase t c = grind (arith, common_steps)
 
 pub returns-in_ok-arguments-in-Insert : goal.returns-in_ok-arguments-in-Insert
 returns-in_ok-arguments-in-Insert t c = grind (arith, common_steps)
+
+pub returns-in_ok-patterns-in-Get : goal.returns-in_ok-patterns-in-Get
+returns-in_ok-patterns-in-Get t c = grind (arith, common_steps)

@@ -1,4 +1,5 @@
-use Rattle.std.proofs.Common.{◌≡◌, ℕ, List, [], ◌∷◌, ◌++◌, true≢false, not, slice_get, refl, ap, sym, ◌∙◌, subst}
+use Rattle.std.proofs.Common.{◌≡◌, ℕ, List, [], ◌∷◌, ◌++◌, true≢false, not, slice_get, refl, ap, sym, ◌∙◌, subst, arith}
+use Rattle.std.proofs.lemmas.Grind.{common_steps}
 use Rattle.spec_terms.specs.Term.{Term}
 use Rattle.term_tree.specs.Bank.{Names}
 use Rattle.term_tree.specs.declared.bank.Id.{Id}
@@ -93,3 +94,9 @@ pub returns-in_err-index-clause-no_memory : goal.returns-in_err-index-clause-no_
 returns-in_err-index-clause-no_memory c = λ known.
     let there = known_root c.self.inside.shapes.keys c.self.inside.measures.items c.args.self.now c.args.shape known.0 c.self.view_is c.self.invariant.0 c.requires.plain c.requires.args known.1 in
     absurd (true≢false (sym there ∙ c.in_err-index.ensures.absent))
+
+pub invariant_of-self-then-not-is_new : goal.invariant_of-self-then-not-is_new
+invariant_of-self-then-not-is_new c = grind (arith, common_steps)
+
+pub returns-in_err-index-clause-grows : goal.returns-in_err-index-clause-grows
+returns-in_err-index-clause-grows c = grind (arith, common_steps)

@@ -1,4 +1,5 @@
-use Rattle.std.proofs.Common.{ℕ, List, map, Option, IfSome, OnOk, subst}
+use Rattle.std.proofs.Common.{ℕ, List, map, Option, IfSome, OnOk, subst, arith}
+use Rattle.std.proofs.lemmas.Grind.{common_steps}
 use Rattle.spec_trees.specs.Tree.{node}
 use Rattle.spec_terms.specs.Term.{Term}
 use Rattle.term_tree.specs.Bank.{symbol_of, tree_at, Names}
@@ -16,3 +17,6 @@ returns-in-Some-clause-found c =
 pub returns-in-None-clause-added : goal.returns-in-None-clause-added
 returns-in-None-clause-added c =
     subst (λ (all : List Term). OnOk c.insert.result (AddsNew all c.insert.new.self (node (symbol_of c.args.symbol) (map (tree_at all) c.args.args.now)))) c.find.ensures.same c.insert.ensures.added
+
+pub returns-in-Some-clause-names : goal.returns-in-Some-clause-names
+returns-in-Some-clause-names c = grind (arith, common_steps)

@@ -1,4 +1,5 @@
 use Rattle.std.proofs.Common.{◌<◌, ap, refl, arith, length}
+use Rattle.std.proofs.lemmas.Grind.{common_steps}
 use Rattle.std.proofs.lemmas.Bool.{false≢true}
 use Rattle.term_tree.specs.Bank.{symbol_of}
 use Rattle.term_tree.proofs.BankLaws.{symbol_of-injective, known-at}
@@ -56,3 +57,15 @@ returns-after-each t c =
           c.in-App.ensures.0 c.in-App-node-2.ensures.0 (ap symbol_of (c.if-not-is_same.ensures.0 refl)) (omega (arith, c.if-xs-ys.false)) c.each.invariant c.each-test.false,
       λ e. refl,
     )
+
+pub returns-in-App-node : goal.returns-in-App-node
+returns-in-App-node t c = grind (arith, common_steps)
+
+pub returns-in-Var-node-2 : goal.returns-in-Var-node-2
+returns-in-Var-node-2 t c = grind (arith, common_steps)
+
+pub returns-in-Var-node : goal.returns-in-Var-node
+returns-in-Var-node t c = grind (arith, common_steps)
+
+pub returns-then-left-right : goal.returns-then-left-right
+returns-then-left-right t c = grind (arith, common_steps)

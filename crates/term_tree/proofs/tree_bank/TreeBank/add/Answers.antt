@@ -1,4 +1,5 @@
 use Rattle.std.proofs.Common.{[], map, arith, ap, ◌∙◌, sym}
+use Rattle.std.proofs.lemmas.Grind.{common_steps}
 use Rattle.term_tree.specs.Roots.{built, tree_of, told}
 use Rattle.term_tree.specs.TreeBank.{root_of, roots}
 use Rattle.term_tree.specs.declared.tree_bank.Entry.{Entry}
@@ -21,3 +22,6 @@ returns-clause-ok c = (
   omega (arith, items-length (λ (x : Entry). root_of x.shape) c.self.inside.entries.items c.args.self.now c.self.view_is, c.len.ensures),
   ap (λ es. built [] (roots es)) c.in_ok-push.ensures.items ∙ built-push (λ (x : Entry). root_of x.shape) c.self.inside.entries.items c.args.self.now c.args.entry c.self.view_is,
 )
+
+pub invariant_of-self : goal.invariant_of-self
+invariant_of-self c = grind (arith, common_steps)

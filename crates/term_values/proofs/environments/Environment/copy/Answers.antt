@@ -16,3 +16,6 @@ loop-binding-preserved c =
 
 pub returns : goal.returns
 returns c = grind (arith, common_steps)
+
+pub loop-binding-init : goal.loop-binding-init
+loop-binding-init c = grind (arith, common_steps)
