@@ -18,7 +18,6 @@ use std::alloc::{AllocError, Global};
 use term_tree::Id;
 
 /// How a thread went on at a node.
-#[derive(Drop)]
 pub enum Chosen {
     /// With the value of that label, which is empty at a `get` with an entry, and where nothing is chosen.
     Taken(Numbers),
@@ -26,9 +25,17 @@ pub enum Chosen {
     Else,
 }
 
+impl Drop for Chosen {
+    fn drop(self) {
+        match self {
+            Chosen::Taken(part) => drop(part),
+            Chosen::Else => {}
+        }
+    }
+}
+
 /// A node of the process that was done in a copy: its point, the numbers of the copies above it, a replication's own among them, what
 /// it received or took of an entry, how it went on, and the thread that began there, where one did.
-#[derive(Drop)]
 pub struct Done {
     pub point: u32,
     pub sessions: Vec<Id>,
@@ -37,12 +44,39 @@ pub struct Done {
     pub other: u32,
 }
 
+impl Drop for Done {
+    fn drop(self) {
+        let Done {
+            point: _,
+            sessions,
+            messages,
+            choice,
+            other: _,
+        } = self;
+        drop(sessions);
+        drop(messages);
+        drop(choice);
+    }
+}
+
 /// Nodes that were done, in order. Beside them stands which there are of each class.
-#[derive(Drop)]
 pub struct DoneNodes {
     alloc: Global,
     pub items: Vec<Done>,
     pub classes: Classes,
+}
+
+impl Drop for DoneNodes {
+    fn drop(self) {
+        let DoneNodes {
+            alloc,
+            items,
+            classes,
+        } = self;
+        drop(alloc);
+        drop(items);
+        drop(classes);
+    }
 }
 
 /// How many classes nodes stand in.

@@ -25,11 +25,22 @@ use term_tree::{Bank, Id, Node, Sym};
 
 /// The numbers of the known values by a key of the value: equal values have equal keys, so the first place of a value is the first
 /// of its key's that has it.
-#[derive(Drop)]
 pub struct Known {
     alloc: Global,
     pub classes: Classes,
     pub count: usize,
+}
+
+impl Drop for Known {
+    fn drop(self) {
+        let Known {
+            alloc,
+            classes,
+            count: _,
+        } = self;
+        drop(alloc);
+        drop(classes);
+    }
 }
 
 /// Whether the value is the known one of that number, from 0.
@@ -115,21 +126,39 @@ fn add_free(number: u32, made: &mut Vec<Value>) -> Result<bool, AllocError>
 }
 
 /// The value that was made for a closed term: a name of a restriction or of the attacker.
-#[derive(Drop)]
 pub struct Named {
     pub term: Id,
     pub value: Value,
+}
+
+impl Drop for Named {
+    fn drop(self) {
+        let Named { term: _, value } = self;
+        drop(value);
+    }
 }
 
 /// How many classes names stand in.
 const CLASSES: usize = 65_521;
 
 /// The values of names, which are looked up by their terms' ids.
-#[derive(Drop)]
 pub struct Names {
     alloc: Global,
     pub items: Vec<Named>,
     pub classes: Classes,
+}
+
+impl Drop for Names {
+    fn drop(self) {
+        let Names {
+            alloc,
+            items,
+            classes,
+        } = self;
+        drop(alloc);
+        drop(items);
+        drop(classes);
+    }
 }
 
 impl Names {

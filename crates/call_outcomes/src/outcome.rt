@@ -77,9 +77,15 @@ pub enum Finding {
 }
 
 /// Findings, one for each query, in order.
-#[derive(Drop)]
 pub struct Findings {
     pub items: Vec<Finding>,
+}
+
+impl Drop for Findings {
+    fn drop(self) {
+        let Findings { items } = self;
+        drop(items);
+    }
 }
 
 impl Model for Findings {
@@ -92,7 +98,6 @@ impl Model for Findings {
 }
 
 /// The summary of a ring that was made and verified.
-#[derive(Drop)]
 pub struct Ring {
     /// How many keys it has.
     pub stages: u64,
@@ -104,8 +109,19 @@ pub struct Ring {
     pub verdict: Verdict,
 }
 
+impl Drop for Ring {
+    fn drop(self) {
+        let Ring {
+            stages: _,
+            bytes: _,
+            clauses: _,
+            verdict,
+        } = self;
+        drop(verdict);
+    }
+}
+
 /// What a call of the program comes to.
-#[derive(Drop)]
 pub enum Outcome {
     /// The words are no command.
     Usage,
@@ -129,4 +145,22 @@ pub enum Outcome {
     ReadFault,
     /// Want of memory, which may come in place of any other outcome.
     Memory,
+}
+
+impl Drop for Outcome {
+    fn drop(self) {
+        match self {
+            Outcome::Usage => {}
+            Outcome::Verified(part) => drop(part),
+            Outcome::Checked(part) => drop(part),
+            Outcome::Listed(part) => drop(part),
+            Outcome::ListLarge(_) => {}
+            Outcome::NoQuery(_) => {}
+            Outcome::Replayed(part) => drop(part),
+            Outcome::Ring(part) => drop(part),
+            Outcome::Refused(part) => drop(part),
+            Outcome::ReadFault => {}
+            Outcome::Memory => {}
+        }
+    }
 }

@@ -18,10 +18,16 @@ use std::alloc::Global;
 const NOT_WRITTEN: u8 = 6;
 
 /// What a call ends with: the outcome, and the program's exit status.
-#[derive(Drop)]
 pub struct Answer {
     pub status: u8,
     pub outcome: Outcome,
+}
+
+impl Drop for Answer {
+    fn drop(self) {
+        let Answer { status: _, outcome } = self;
+        drop(outcome);
+    }
 }
 
 /// Writes a text, and answers with the outcome and its status, or with 6 where a part could not be written.
@@ -60,7 +66,7 @@ pub fn respond<S: Sink>(
     ensures written { IsWritten result.status (S.written out.old) (S.written out.new)
         (outcome_bytes format (words_of protocol.entry) (outcome_of result.outcome)) }
 {
-    match outcome {
+    match &outcome {
         Outcome::Usage => finish(outcome, USAGE, out),
         Outcome::ReadFault => finish(outcome, READ_FAULT, out),
         Outcome::Memory => finish(outcome, WANT_OF_MEMORY, out),

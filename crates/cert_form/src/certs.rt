@@ -20,9 +20,16 @@ use std::marker::Model;
 use std::rc::Rc;
 
 /// Clauses over owned trees, in order. A clause may stand in several such lists, which share it.
-#[derive(Debug, Drop)]
+#[derive(Debug)]
 pub struct PlainClauses {
     pub items: Vec<Rc<PlainClause>>,
+}
+
+impl Drop for PlainClauses {
+    fn drop(self) {
+        let PlainClauses { items } = self;
+        drop(items);
+    }
 }
 
 impl Model for PlainClauses {
@@ -40,9 +47,16 @@ impl Model for PlainClauses {
 }
 
 /// Rows of numbers, in order.
-#[derive(Debug, Drop)]
+#[derive(Debug)]
 pub struct Rows {
     pub items: Vec<Vec<u32>>,
+}
+
+impl Drop for Rows {
+    fn drop(self) {
+        let Rows { items } = self;
+        drop(items);
+    }
 }
 
 impl Model for Rows {
@@ -58,11 +72,24 @@ impl Model for Rows {
 
 /// A certificate: its clauses, its cover rows, each the number of a clause and positions, and its goal rows, each the number
 /// of an alternative and positions.
-#[derive(Debug, Drop)]
+#[derive(Debug)]
 pub struct Cert {
     pub clauses: PlainClauses,
     pub rows: Rows,
     pub goals: Rows,
+}
+
+impl Drop for Cert {
+    fn drop(self) {
+        let Cert {
+            clauses,
+            rows,
+            goals,
+        } = self;
+        drop(clauses);
+        drop(rows);
+        drop(goals);
+    }
 }
 
 impl Model for Cert {

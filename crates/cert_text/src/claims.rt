@@ -21,7 +21,6 @@ use std::alloc::{AllocError, Global};
 use std::marker::Model;
 
 /// What a report claims of a query.
-#[derive(Drop)]
 pub enum Claim {
     /// It is proved, as this certificate is to show.
     Proved(Cert),
@@ -29,6 +28,16 @@ pub enum Claim {
     Bare,
     /// Whether it holds is unknown, or an attack is claimed: neither is looked at.
     Unknown,
+}
+
+impl Drop for Claim {
+    fn drop(self) {
+        match self {
+            Claim::Proved(part) => drop(part),
+            Claim::Bare => {}
+            Claim::Unknown => {}
+        }
+    }
 }
 
 /// Claims in order, one for each query.

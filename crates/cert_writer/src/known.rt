@@ -16,13 +16,29 @@ use std::alloc::{AllocError, Global};
 /// The live clauses of a log before any goal, and for each of the first so many of them the rows of what it gives with all of
 /// them; clauses that are given before any goal, with the first rows that show that the live ones cover the first so many of
 /// these; and the first so many live ones over trees. They stand in the certificate of each query whose clauses begin with these.
-#[derive(Drop)]
 pub struct KnownRows {
     pub live: Clauses,
     pub rows: Vec<Rows>,
     pub given: Clauses,
     pub covers: Rows,
     pub plain: PlainClauses,
+}
+
+impl Drop for KnownRows {
+    fn drop(self) {
+        let KnownRows {
+            live,
+            rows,
+            given,
+            covers,
+            plain,
+        } = self;
+        drop(live);
+        drop(rows);
+        drop(given);
+        drop(covers);
+        drop(plain);
+    }
 }
 
 /// The clauses that are given before any goal, and the live clauses of their log, without rows yet.

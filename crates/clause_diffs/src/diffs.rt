@@ -8,11 +8,23 @@ use std::marker::Model;
 
 /// A constraint: the left terms and the right ones, one by one, are not to be equal, whatever stands for the variables that it
 /// binds. These are the variables from `first` on; those below are the clause's.
-#[derive(Debug, Drop)]
+#[derive(Debug)]
 pub struct Diff {
     pub first: u32,
     pub left: Ids,
     pub right: Ids,
+}
+
+impl Drop for Diff {
+    fn drop(self) {
+        let Diff {
+            first: _,
+            left,
+            right,
+        } = self;
+        drop(left);
+        drop(right);
+    }
 }
 
 impl Model for Diff {
@@ -28,9 +40,16 @@ impl Model for Diff {
 }
 
 /// Constraints in order.
-#[derive(Debug, Drop)]
+#[derive(Debug)]
 pub struct Diffs {
     pub items: Vec<Diff>,
+}
+
+impl Drop for Diffs {
+    fn drop(self) {
+        let Diffs { items } = self;
+        drop(items);
+    }
 }
 
 impl Model for Diffs {

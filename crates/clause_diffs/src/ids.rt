@@ -7,9 +7,16 @@ use std::marker::Model;
 use term_tree::Id;
 
 /// Ids of terms in order.
-#[derive(Debug, Drop)]
+#[derive(Debug)]
 pub struct Ids {
     pub items: Vec<Id>,
+}
+
+impl Drop for Ids {
+    fn drop(self) {
+        let Ids { items } = self;
+        drop(items);
+    }
 }
 
 impl Model for Ids {

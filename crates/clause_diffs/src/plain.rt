@@ -39,11 +39,23 @@ impl Model for Trees {
 }
 
 /// A constraint over owned trees. The variables from `first` on are those that it binds.
-#[derive(Debug, Drop)]
+#[derive(Debug)]
 pub struct PlainDiff {
     pub first: u32,
     pub left: Trees,
     pub right: Trees,
+}
+
+impl Drop for PlainDiff {
+    fn drop(self) {
+        let PlainDiff {
+            first: _,
+            left,
+            right,
+        } = self;
+        drop(left);
+        drop(right);
+    }
 }
 
 impl Model for PlainDiff {
@@ -59,9 +71,16 @@ impl Model for PlainDiff {
 }
 
 /// Constraints over owned trees, in order.
-#[derive(Debug, Drop)]
+#[derive(Debug)]
 pub struct PlainDiffs {
     pub items: Vec<PlainDiff>,
+}
+
+impl Drop for PlainDiffs {
+    fn drop(self) {
+        let PlainDiffs { items } = self;
+        drop(items);
+    }
 }
 
 impl Model for PlainDiffs {

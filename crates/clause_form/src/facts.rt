@@ -8,7 +8,6 @@ use std::marker::Model;
 use term_tree::Id;
 
 /// A fact. Phases are numbered from 0, tables and events from 1.
-#[derive(Drop)]
 pub enum Fact {
     /// In the phase the attacker has the term.
     Att(u32, Id),
@@ -22,6 +21,19 @@ pub enum Fact {
     Mev(u32, Ids),
     /// What the query asks about has come about: stands in conclusions alone.
     Bad(Ids),
+}
+
+impl Drop for Fact {
+    fn drop(self) {
+        match self {
+            Fact::Att(_, _) => {}
+            Fact::Mess(_, _, _) => {}
+            Fact::Tab(_, part) => drop(part),
+            Fact::Ev(_, part) => drop(part),
+            Fact::Mev(_, part) => drop(part),
+            Fact::Bad(part) => drop(part),
+        }
+    }
 }
 
 /// Facts in order.
@@ -46,11 +58,19 @@ impl Model for Facts {
 }
 
 /// A clause: where the hypotheses hold and the constraints are met, the conclusion holds.
-#[derive(Drop)]
 pub struct Clause {
     pub hyps: Facts,
     pub diffs: Diffs,
     pub concl: Fact,
+}
+
+impl Drop for Clause {
+    fn drop(self) {
+        let Clause { hyps, diffs, concl } = self;
+        drop(hyps);
+        drop(diffs);
+        drop(concl);
+    }
 }
 
 impl Model for Clause {
@@ -151,6 +171,19 @@ impl Facts {
 }
 
 impl Clause {
+    ghost use Rattle.std.specs.Prelude.{◌≡◌};
+    ghost use Rattle.clause_form.specs.Facts.{fact_of};
+
+    /// Its hypotheses, constraints and conclusion.
+    pub fn apart(self) -> (Facts, Diffs, Fact)
+        ensures hypotheses { result.0 ≡ self.hypotheses }
+        ensures diffs { result.1 ≡ self.diffs }
+        ensures conclusion { fact_of result.2 ≡ self.conclusion }
+    {
+        let Clause { hyps, diffs, concl } = self;
+        (hyps, diffs, concl)
+    }
+
     /// A copy, the ids the same.
     pub fn copy(&self, alloc: Global) -> Result<Clause, AllocError>
         ensures { IfOk result (λ copied. copied ≡ self.now) }

@@ -326,7 +326,7 @@ pub fn norm<B: Bank>(alloc: Global, bank: &mut B, clause: Clause) -> Result<Norm
     ensures err { OnErr result (B.trees bank.new ≡ B.trees bank.old) }
 {
     let mark = bank.mark();
-    let Clause { hyps, diffs, concl } = clause;
+    let (hyps, diffs, concl) = clause.apart();
     match norm_grown(alloc, bank, &concl, hyps, &diffs) {
         Ok(normal) => Ok(normal),
         Err(error) => {

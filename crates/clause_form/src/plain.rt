@@ -4,7 +4,7 @@ use clause_diffs::{PlainDiffs, Tree, Trees};
 use std::marker::Model;
 
 /// A fact over owned trees.
-#[derive(Debug, Drop)]
+#[derive(Debug)]
 pub enum PlainFact {
     Att(u32, Tree),
     Mess(u32, Tree, Tree),
@@ -14,10 +14,33 @@ pub enum PlainFact {
     Bad(Trees),
 }
 
+impl Drop for PlainFact {
+    fn drop(self) {
+        match self {
+            PlainFact::Att(_, part) => drop(part),
+            PlainFact::Mess(_, part1, part2) => {
+                drop(part1);
+                drop(part2);
+            }
+            PlainFact::Tab(_, part) => drop(part),
+            PlainFact::Ev(_, part) => drop(part),
+            PlainFact::Mev(_, part) => drop(part),
+            PlainFact::Bad(part) => drop(part),
+        }
+    }
+}
+
 /// Facts over owned trees, in order.
-#[derive(Debug, Drop)]
+#[derive(Debug)]
 pub struct PlainFacts {
     pub items: Vec<PlainFact>,
+}
+
+impl Drop for PlainFacts {
+    fn drop(self) {
+        let PlainFacts { items } = self;
+        drop(items);
+    }
 }
 
 impl Model for PlainFacts {
@@ -36,11 +59,20 @@ impl Model for PlainFacts {
 }
 
 /// A clause over owned trees.
-#[derive(Debug, Drop)]
+#[derive(Debug)]
 pub struct PlainClause {
     pub hyps: PlainFacts,
     pub diffs: PlainDiffs,
     pub concl: PlainFact,
+}
+
+impl Drop for PlainClause {
+    fn drop(self) {
+        let PlainClause { hyps, diffs, concl } = self;
+        drop(hyps);
+        drop(diffs);
+        drop(concl);
+    }
 }
 
 impl Model for PlainClause {

@@ -14,12 +14,25 @@ pub const MOST_INSTANCES: usize = 100_000;
 
 /// A closed instance of the source of that index: the terms of its hypotheses, and the messages and sessions of its way, over the
 /// ids of a bank.
-#[derive(Drop)]
 pub struct Instance {
     pub source: usize,
     pub supposed: Ids,
     pub messages: Ids,
     pub sessions: Ids,
+}
+
+impl Drop for Instance {
+    fn drop(self) {
+        let Instance {
+            source: _,
+            supposed,
+            messages,
+            sessions,
+        } = self;
+        drop(supposed);
+        drop(messages);
+        drop(sessions);
+    }
 }
 
 /// Instances in order.

@@ -9,7 +9,6 @@ use term_tree::Mark;
 
 /// The part of a log before its goal, which is the same for every goal, and the whole log with the goal of the last
 /// `finish`.
-#[derive(Drop)]
 pub struct Common {
     pub(crate) alloc: Global,
     /// The log as `begin` left it.
@@ -25,6 +24,25 @@ pub struct Common {
     pub(crate) finished: Option<Log>,
 }
 
+impl Drop for Common {
+    fn drop(self) {
+        let Common {
+            alloc,
+            begun,
+            live,
+            budget: _,
+            number: _,
+            mark,
+            finished,
+        } = self;
+        drop(alloc);
+        drop(begun);
+        drop(live);
+        drop(mark);
+        drop(finished);
+    }
+}
+
 /// How the logs of given clauses begin, whatever the goal.
 #[derive(Drop)]
 pub enum Begun {
@@ -37,7 +55,6 @@ pub enum Begun {
 }
 
 /// How a log ends.
-#[derive(Drop)]
 pub enum End {
     /// All that is new is there.
     Closed,
@@ -45,6 +62,16 @@ pub enum End {
     Spent(Entry),
     /// The pair of this solved entry and this unsolved one is too large.
     Large(usize, usize),
+}
+
+impl Drop for End {
+    fn drop(self) {
+        match self {
+            End::Closed => {}
+            End::Spent(part) => drop(part),
+            End::Large(_, _) => {}
+        }
+    }
 }
 
 /// The log: as the last of `begin`, `finish` and `rewind` left it. Takes no memory.

@@ -11,9 +11,15 @@ use std::rc::Rc;
 
 /// The label of a choice: the numbers of the rules by which the destructors of a `let` are applied, 0 alone where it has none; of
 /// a `get` it is empty.
-#[derive(Drop)]
 pub struct Label {
     pub items: Vec<u32>,
+}
+
+impl Drop for Label {
+    fn drop(self) {
+        let Label { items } = self;
+        drop(items);
+    }
 }
 
 impl Model for Label {
@@ -25,7 +31,6 @@ impl Model for Label {
 }
 
 /// How a thread went on at a `let` or a `get`.
-#[derive(Drop)]
 pub enum Choice {
     /// With the value of that label; at a `get` with an entry.
     Taken(Label),
@@ -33,10 +38,25 @@ pub enum Choice {
     Else,
 }
 
+impl Drop for Choice {
+    fn drop(self) {
+        match self {
+            Choice::Taken(part) => drop(part),
+            Choice::Else => {}
+        }
+    }
+}
+
 /// Choices in order.
-#[derive(Drop)]
 pub struct Choices {
     pub items: Vec<Choice>,
+}
+
+impl Drop for Choices {
+    fn drop(self) {
+        let Choices { items } = self;
+        drop(items);
+    }
 }
 
 impl Model for Choices {
@@ -55,13 +75,27 @@ impl Model for Choices {
 
 /// The way of a thread to a point: how it went on at each `let` and `get` above the point, the messages that it received and the
 /// terms of the entries that it took, the numbers of the copies that it comes from, each outermost first, and the phase.
-#[derive(Drop)]
 pub struct Way {
     pub point: u32,
     pub choices: Choices,
     pub messages: Trees,
     pub sessions: Trees,
     pub phase: u32,
+}
+
+impl Drop for Way {
+    fn drop(self) {
+        let Way {
+            point: _,
+            choices,
+            messages,
+            sessions,
+            phase: _,
+        } = self;
+        drop(choices);
+        drop(messages);
+        drop(sessions);
+    }
 }
 
 impl Model for Way {
@@ -82,7 +116,6 @@ impl Model for Way {
 }
 
 /// What a run does where an instance of a raw clause is used. Constructors, destructors and rules are numbered from 1.
-#[derive(Drop)]
 pub enum Action {
     /// Nothing.
     Idle,
@@ -94,13 +127,35 @@ pub enum Action {
     Reaches(Way),
 }
 
+impl Drop for Action {
+    fn drop(self) {
+        match self {
+            Action::Idle => {}
+            Action::Builds(_) => {}
+            Action::Reduces(_, _) => {}
+            Action::Reaches(part) => drop(part),
+        }
+    }
+}
+
 /// A source: a raw clause, the number of the flat part whose norm a clause is, from 1, and what a run does where an instance of
 /// the raw clause is used. The sources of one raw clause share it and the action.
-#[derive(Drop)]
 pub struct Source {
     pub(crate) raw: Rc<PlainClause>,
     pub part: usize,
     pub(crate) action: Rc<Action>,
+}
+
+impl Drop for Source {
+    fn drop(self) {
+        let Source {
+            raw,
+            part: _,
+            action,
+        } = self;
+        drop(raw);
+        drop(action);
+    }
 }
 
 impl Model for Source {

@@ -41,10 +41,17 @@ pub fn class_of(print: &Fingerprint) -> Option<usize>
 
 /// Numbers of facts: for each class those of the facts in it, and those of the facts in none, each in the order in which they
 /// were put there.
-#[derive(Drop)]
 pub struct Classes {
     pub lists: Vec<Vec<usize>>,
     pub rest: Vec<usize>,
+}
+
+impl Drop for Classes {
+    fn drop(self) {
+        let Classes { lists, rest } = self;
+        drop(lists);
+        drop(rest);
+    }
 }
 
 /// Copies of lists.

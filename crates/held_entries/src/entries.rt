@@ -16,10 +16,16 @@ use std::marker::Model;
 use term_values::Environment;
 
 /// An entry of a table, which is numbered from 1, with its values.
-#[derive(Drop)]
 pub struct Held {
     pub table: u32,
     pub args: Values,
+}
+
+impl Drop for Held {
+    fn drop(self) {
+        let Held { table: _, args } = self;
+        drop(args);
+    }
 }
 
 /// What is asked of an entry.
@@ -35,11 +41,23 @@ enum Question {
 ///
 /// Beside it stands which entries there are of each table, and of each table and value in a column, so that a `get` whose
 /// patterns compare a column looks at few. Where memory ran out while an entry was written, it is given up.
-#[derive(Drop)]
 pub struct Entries {
     pub items: Vec<Held>,
     classes: Option<Classes>,
     alloc: Global,
+}
+
+impl Drop for Entries {
+    fn drop(self) {
+        let Entries {
+            items,
+            classes,
+            alloc,
+        } = self;
+        drop(items);
+        drop(classes);
+        drop(alloc);
+    }
 }
 
 impl Model for Entries {

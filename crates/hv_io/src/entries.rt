@@ -6,10 +6,17 @@ use std::alloc::{AllocError, Global};
 use std::marker::Model;
 
 /// A name, and the bytes under it.
-#[derive(Drop)]
 pub struct NamedBytes {
     name: String,
     bytes: Vec<u8>,
+}
+
+impl Drop for NamedBytes {
+    fn drop(self) {
+        let NamedBytes { name, bytes } = self;
+        drop(name);
+        drop(bytes);
+    }
 }
 
 impl Model for NamedBytes {

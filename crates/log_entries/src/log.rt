@@ -17,17 +17,34 @@ pub enum Origin {
 }
 
 /// An entry of a log: its clause, where that comes from, and the first later entry that subsumes it, if one does.
-#[derive(Drop)]
 pub struct Entry {
     pub clause: Clause,
     pub origin: Origin,
     pub by: Option<usize>,
 }
 
+impl Drop for Entry {
+    fn drop(self) {
+        let Entry {
+            clause,
+            origin,
+            by: _,
+        } = self;
+        drop(clause);
+        drop(origin);
+    }
+}
+
 /// Entries in order.
-#[derive(Drop)]
 pub struct Log {
     pub items: Vec<Entry>,
+}
+
+impl Drop for Log {
+    fn drop(self) {
+        let Log { items } = self;
+        drop(items);
+    }
 }
 
 impl Model for Log {
@@ -43,17 +60,34 @@ impl Model for Log {
 }
 
 /// An entry with its clause over owned trees.
-#[derive(Drop)]
 pub struct PlainEntry {
     pub clause: PlainClause,
     pub origin: Origin,
     pub by: Option<usize>,
 }
 
+impl Drop for PlainEntry {
+    fn drop(self) {
+        let PlainEntry {
+            clause,
+            origin,
+            by: _,
+        } = self;
+        drop(clause);
+        drop(origin);
+    }
+}
+
 /// Entries over owned trees, in order.
-#[derive(Drop)]
 pub struct PlainLog {
     pub items: Vec<PlainEntry>,
+}
+
+impl Drop for PlainLog {
+    fn drop(self) {
+        let PlainLog { items } = self;
+        drop(items);
+    }
 }
 
 impl Model for PlainLog {

@@ -20,7 +20,6 @@ use term_store::SharedBank;
 use term_tree::Id;
 
 /// Where a compilation stops. Instances are told by their indices.
-#[derive(Drop)]
 pub struct Stop {
     /// Those that were compiled, in the order in which they are.
     pub compiled: Vec<usize>,
@@ -30,6 +29,19 @@ pub struct Stop {
     pub instance: usize,
     /// The run as it was when that was found. Of it nothing is promised.
     pub state: State,
+}
+
+impl Drop for Stop {
+    fn drop(self) {
+        let Stop {
+            compiled,
+            steps: _,
+            instance: _,
+            state,
+        } = self;
+        drop(compiled);
+        drop(state);
+    }
 }
 
 /// A compilation that stopped, with what it is of.

@@ -3,7 +3,6 @@
 use log_entries::{PlainEntry, PlainLog};
 
 /// How a log ends. Entries are counted from 1.
-#[derive(Drop)]
 pub enum LogEnd {
     /// All that is new is there.
     Closed,
@@ -13,8 +12,17 @@ pub enum LogEnd {
     Large(usize, usize),
 }
 
+impl Drop for LogEnd {
+    fn drop(self) {
+        match self {
+            LogEnd::Closed => {}
+            LogEnd::Spent(part) => drop(part),
+            LogEnd::Large(_, _) => {}
+        }
+    }
+}
+
 /// The log of a query.
-#[derive(Drop)]
 pub struct QueryLog {
     /// Its entries.
     pub entries: PlainLog,
@@ -28,11 +36,33 @@ pub struct QueryLog {
     pub unmet: Option<usize>,
 }
 
+impl Drop for QueryLog {
+    fn drop(self) {
+        let QueryLog {
+            entries,
+            end,
+            attackers: _,
+            given: _,
+            unmet: _,
+        } = self;
+        drop(entries);
+        drop(end);
+    }
+}
+
 /// What is told of the log of a query.
-#[derive(Drop)]
 pub enum Told {
     /// The visit of this point is too large, so there is no log.
     TooLarge(u32),
     /// The log.
     Logged(QueryLog),
+}
+
+impl Drop for Told {
+    fn drop(self) {
+        match self {
+            Told::TooLarge(_) => {}
+            Told::Logged(part) => drop(part),
+        }
+    }
 }

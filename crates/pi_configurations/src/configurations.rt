@@ -19,7 +19,6 @@ use term_values::Environment;
 
 /// Where a run stands: its threads, what the attacker knows, the events that were performed, the number of
 /// the next name, how many steps were applied, the phase, and the entries of tables.
-#[derive(Drop)]
 pub struct Conf {
     pub threads: Threads,
     pub known: Known,
@@ -28,6 +27,24 @@ pub struct Conf {
     pub steps: u64,
     pub phase: u32,
     pub entries: Entries,
+}
+
+impl Drop for Conf {
+    fn drop(self) {
+        let Conf {
+            threads,
+            known,
+            events,
+            next: _,
+            steps: _,
+            phase: _,
+            entries,
+        } = self;
+        drop(threads);
+        drop(known);
+        drop(events);
+        drop(entries);
+    }
 }
 
 /// The public names among the free names, in order of declaration.

@@ -4,16 +4,28 @@ use pi_tree::Values;
 use std::marker::Model;
 
 /// An event that was performed, numbered from 1, with the values of its arguments.
-#[derive(Drop)]
 pub struct Happened {
     pub event: u32,
     pub args: Values,
 }
 
+impl Drop for Happened {
+    fn drop(self) {
+        let Happened { event: _, args } = self;
+        drop(args);
+    }
+}
+
 /// Events in the order in which they were performed.
-#[derive(Drop)]
 pub struct Happenings {
     pub items: Vec<Happened>,
+}
+
+impl Drop for Happenings {
+    fn drop(self) {
+        let Happenings { items } = self;
+        drop(items);
+    }
 }
 
 impl Model for Happenings {

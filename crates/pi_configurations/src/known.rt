@@ -13,10 +13,17 @@ use std::marker::Model;
 ///
 /// Beside it stands where a value of each hash was added last. It only tells where to look first: nothing rests on it,
 /// and what isn't found there is looked for in all of the list.
-#[derive(Drop)]
 pub struct Known {
     pub items: Vec<Value>,
     latest: HashMap<u64, usize>,
+}
+
+impl Drop for Known {
+    fn drop(self) {
+        let Known { items, latest } = self;
+        drop(items);
+        drop(latest);
+    }
 }
 
 impl Model for Known {

@@ -10,16 +10,30 @@ use std::marker::Model;
 use term_values::Environment;
 
 /// A thread: it stands at a point of the main process with what it has bound, or it has ended.
-#[derive(Drop)]
 pub enum Thread {
     At(u32, Environment),
     Ended,
 }
 
+impl Drop for Thread {
+    fn drop(self) {
+        match self {
+            Thread::At(_, part) => drop(part),
+            Thread::Ended => {}
+        }
+    }
+}
+
 /// Threads in order; they are numbered from 1.
-#[derive(Drop)]
 pub struct Threads {
     pub items: Vec<Thread>,
+}
+
+impl Drop for Threads {
+    fn drop(self) {
+        let Threads { items } = self;
+        drop(items);
+    }
 }
 
 impl Model for Threads {

@@ -27,10 +27,16 @@ pub struct Token {
 }
 
 /// The tokens of a file, in the order of their places.
-#[derive(Drop)]
 pub struct Tokens {
     /// The tokens.
     pub items: Vec<Token>,
+}
+
+impl Drop for Tokens {
+    fn drop(self) {
+        let Tokens { items } = self;
+        drop(items);
+    }
 }
 
 impl Model for Tokens {

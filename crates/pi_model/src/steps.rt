@@ -3,9 +3,16 @@
 use std::marker::Model;
 
 /// Numbers in order, of known values or of rules.
-#[derive(Debug, Drop)]
+#[derive(Debug)]
 pub struct Numbers {
     pub items: Vec<u32>,
+}
+
+impl Drop for Numbers {
+    fn drop(self) {
+        let Numbers { items } = self;
+        drop(items);
+    }
 }
 
 impl Model for Numbers {
@@ -18,7 +25,7 @@ impl Model for Numbers {
 
 /// A step of a run. Threads, known values, constructors, destructors, rules, parts and entries are numbered from 1;
 /// the first four steps are the attacker's, and what they make becomes the last known value.
-#[derive(Debug, Drop)]
+#[derive(Debug)]
 pub enum Step {
     /// The attacker applies the constructor, 0 for the tuple, to known values.
     Build(u32, Numbers),
@@ -55,4 +62,28 @@ pub enum Step {
     Get(u32, u32),
     /// The thread at a `get` goes to its else branch.
     Miss(u32),
+}
+
+impl Drop for Step {
+    fn drop(self) {
+        match self {
+            Step::Build(_, part) => drop(part),
+            Step::Reduce(_, _, part) => drop(part),
+            Step::Part(_, _) => {}
+            Step::Fresh => {}
+            Step::Split(_) => {}
+            Step::Copy(_) => {}
+            Step::Make(_) => {}
+            Step::Pass(_, _) => {}
+            Step::Hear(_) => {}
+            Step::Say(_, _) => {}
+            Step::Take(_, part) => drop(part),
+            Step::Fail(_) => {}
+            Step::Mark(_) => {}
+            Step::Next => {}
+            Step::Insert(_) => {}
+            Step::Get(_, _) => {}
+            Step::Miss(_) => {}
+        }
+    }
 }

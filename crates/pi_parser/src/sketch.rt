@@ -101,10 +101,19 @@ impl Model for PatternsSketch {
 }
 
 /// An event or an entry, `name(arguments)`, or `name` alone where there are no arguments.
-#[derive(Drop)]
 pub struct AtomSketch {
     pub first: usize,
     pub arguments: TermsSketch,
+}
+
+impl Drop for AtomSketch {
+    fn drop(self) {
+        let AtomSketch {
+            first: _,
+            arguments,
+        } = self;
+        drop(arguments);
+    }
 }
 
 /// What is asked of an entry besides its patterns.
@@ -118,12 +127,24 @@ pub enum ConditionSketch {
 
 /// A process.
 #[cycle(process)]
-#[derive(Drop)]
 pub enum ProcessSketch {
     /// A unit alone.
     Alone(Box<UnitSketch>),
     /// `unit | process`.
     Beside(Box<UnitSketch>, Box<ProcessSketch>),
+}
+
+impl Drop for ProcessSketch {
+    #[cycle(process_drop)]
+    fn drop(self) {
+        match self {
+            ProcessSketch::Alone(part) => drop(part),
+            ProcessSketch::Beside(part0, part1) => {
+                drop(part0);
+                drop(part1);
+            }
+        }
+    }
 }
 
 /// A unit of a process.
@@ -217,14 +238,20 @@ pub enum NextSketch {
 }
 
 /// One alternative of a query: `event atom`, and further events, each behind `&&`.
-#[derive(Drop)]
 pub struct AlternativeSketch {
     pub atom: AtomSketch,
     pub others: Vec<AtomSketch>,
 }
 
+impl Drop for AlternativeSketch {
+    fn drop(self) {
+        let AlternativeSketch { atom, others } = self;
+        drop(atom);
+        drop(others);
+    }
+}
+
 /// What a query asks; of secrets with the number behind the word `phase`, if there is one.
-#[derive(Drop)]
 pub enum QuerySketch {
     /// `attacker(new name)`.
     AttackerNew(usize, usize, Option<usize>),
@@ -234,16 +261,39 @@ pub enum QuerySketch {
     Correspondence(usize, AtomSketch, Vec<AlternativeSketch>),
 }
 
+impl Drop for QuerySketch {
+    fn drop(self) {
+        match self {
+            QuerySketch::AttackerNew(_, _, _) => {}
+            QuerySketch::Attacker(_, part, _) => drop(part),
+            QuerySketch::Correspondence(_, part1, part2) => {
+                drop(part1);
+                drop(part2);
+            }
+        }
+    }
+}
+
 /// A rule, `name(arguments) -> result`.
-#[derive(Drop)]
 pub struct RuleSketch {
     pub first: usize,
     pub arguments: TermsSketch,
     pub result: TermSketch,
 }
 
+impl Drop for RuleSketch {
+    fn drop(self) {
+        let RuleSketch {
+            first: _,
+            arguments,
+            result,
+        } = self;
+        drop(arguments);
+        drop(result);
+    }
+}
+
 /// A declaration.
-#[derive(Drop)]
 pub enum DeclarationSketch {
     /// `free name, others.`, after `private` if not public.
     Free {
@@ -296,10 +346,69 @@ pub enum DeclarationSketch {
     },
 }
 
+impl Drop for DeclarationSketch {
+    fn drop(self) {
+        match self {
+            DeclarationSketch::Free {
+                first: _,
+                public: _,
+                name: _,
+                others,
+            } => drop(others),
+            DeclarationSketch::Fun {
+                first: _,
+                public: _,
+                name: _,
+                arity: _,
+            } => {}
+            DeclarationSketch::Data {
+                first: _,
+                name: _,
+                arity: _,
+            } => {}
+            DeclarationSketch::Reduc {
+                first: _,
+                rule,
+                others,
+            } => {
+                drop(rule);
+                drop(others);
+            }
+            DeclarationSketch::Event {
+                first: _,
+                name: _,
+                arity: _,
+            } => {}
+            DeclarationSketch::Table {
+                first: _,
+                name: _,
+                arity: _,
+            } => {}
+            DeclarationSketch::Query { first: _, question } => drop(question),
+            DeclarationSketch::Definition {
+                first: _,
+                name: _,
+                process,
+            } => drop(process),
+        }
+    }
+}
+
 /// A file: its declarations, the number of the word `process`, and the main process.
-#[derive(Drop)]
 pub struct Sketch {
     pub declarations: Vec<DeclarationSketch>,
     pub first: usize,
     pub main: ProcessSketch,
+}
+
+impl Drop for Sketch {
+    fn drop(self) {
+        let Sketch {
+            declarations,
+            first: _,
+            main,
+        } = self;
+        drop(declarations);
+        drop(main);
+    }
 }

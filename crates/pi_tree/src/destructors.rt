@@ -9,16 +9,31 @@ use std::marker::Model;
 
 /// A rule of a destructor: where the arguments are an instance of the left side, the value is that
 /// instance of the right side. It holds no names, and each variable of the right side stands on the left.
-#[derive(Debug, Drop)]
+#[derive(Debug)]
 pub struct Rule {
     pub left: Terms,
     pub right: Term,
 }
 
+impl Drop for Rule {
+    fn drop(self) {
+        let Rule { left, right } = self;
+        drop(left);
+        drop(right);
+    }
+}
+
 /// Rules in order; they are numbered from 1.
-#[derive(Debug, Drop)]
+#[derive(Debug)]
 pub struct Rules {
     pub items: Vec<Rule>,
+}
+
+impl Drop for Rules {
+    fn drop(self) {
+        let Rules { items } = self;
+        drop(items);
+    }
 }
 
 impl Model for Rules {
@@ -36,16 +51,31 @@ impl Model for Rules {
 }
 
 /// A destructor.
-#[derive(Debug, Drop)]
+#[derive(Debug)]
 pub struct Dtor {
     pub word: Word,
     pub rules: Rules,
 }
 
+impl Drop for Dtor {
+    fn drop(self) {
+        let Dtor { word, rules } = self;
+        drop(word);
+        drop(rules);
+    }
+}
+
 /// Destructors in order; they are numbered from 1.
-#[derive(Debug, Drop)]
+#[derive(Debug)]
 pub struct Dtors {
     pub items: Vec<Dtor>,
+}
+
+impl Drop for Dtors {
+    fn drop(self) {
+        let Dtors { items } = self;
+        drop(items);
+    }
 }
 
 impl Model for Dtors {

@@ -6,9 +6,16 @@ use std::alloc::{AllocError, Global};
 use std::marker::Model;
 
 /// The bytes of an identifier.
-#[derive(Debug, Drop)]
+#[derive(Debug)]
 pub struct Word {
     pub items: Vec<u8>,
+}
+
+impl Drop for Word {
+    fn drop(self) {
+        let Word { items } = self;
+        drop(items);
+    }
 }
 
 impl Model for Word {
@@ -20,7 +27,7 @@ impl Model for Word {
 }
 
 /// A declared name: of a free name the arity is 0, and it is no data constructor.
-#[derive(Debug, Drop)]
+#[derive(Debug)]
 pub struct Declared {
     pub word: Word,
     pub arity: u32,
@@ -28,10 +35,29 @@ pub struct Declared {
     pub is_data: bool,
 }
 
+impl Drop for Declared {
+    fn drop(self) {
+        let Declared {
+            word,
+            arity: _,
+            public: _,
+            is_data: _,
+        } = self;
+        drop(word);
+    }
+}
+
 /// Declared names in order; they are numbered from 1.
-#[derive(Debug, Drop)]
+#[derive(Debug)]
 pub struct Declarations {
     pub items: Vec<Declared>,
+}
+
+impl Drop for Declarations {
+    fn drop(self) {
+        let Declarations { items } = self;
+        drop(items);
+    }
 }
 
 impl Model for Declarations {

@@ -14,9 +14,16 @@ use std::alloc::{AllocError, Global};
 use std::marker::Model;
 
 /// The alternatives of a correspondence in order, each of them some events.
-#[derive(Debug, Drop)]
+#[derive(Debug)]
 pub struct Alternatives {
     pub items: Vec<Atoms>,
+}
+
+impl Drop for Alternatives {
+    fn drop(self) {
+        let Alternatives { items } = self;
+        drop(items);
+    }
 }
 
 impl Model for Alternatives {
@@ -32,7 +39,7 @@ impl Model for Alternatives {
 }
 
 /// What is asked of a protocol.
-#[derive(Debug, Drop)]
+#[derive(Debug)]
 pub enum Query {
     /// Does the attacker not get to know the message up to the phase, which is the second?
     Secret(Term, u32),
@@ -47,10 +54,30 @@ pub enum Query {
     },
 }
 
+impl Drop for Query {
+    fn drop(self) {
+        match self {
+            Query::Secret(part, _) => drop(part),
+            Query::SecretNew(_, _) => {}
+            Query::Corr { left, alternatives } => {
+                drop(left);
+                drop(alternatives);
+            }
+        }
+    }
+}
+
 /// Queries in order; they are numbered from 1.
-#[derive(Debug, Drop)]
+#[derive(Debug)]
 pub struct Queries {
     pub items: Vec<Query>,
+}
+
+impl Drop for Queries {
+    fn drop(self) {
+        let Queries { items } = self;
+        drop(items);
+    }
 }
 
 impl Model for Queries {
@@ -68,7 +95,7 @@ impl Model for Queries {
 }
 
 /// A protocol: its declarations, its queries and its main process.
-#[derive(Debug, Drop)]
+#[derive(Debug)]
 pub struct Protocol {
     pub frees: Declarations,
     pub ctors: Declarations,
@@ -77,6 +104,27 @@ pub struct Protocol {
     pub tables: Declarations,
     pub queries: Queries,
     pub main: Process,
+}
+
+impl Drop for Protocol {
+    fn drop(self) {
+        let Protocol {
+            frees,
+            ctors,
+            dtors,
+            events,
+            tables,
+            queries,
+            main,
+        } = self;
+        drop(frees);
+        drop(ctors);
+        drop(dtors);
+        drop(events);
+        drop(tables);
+        drop(queries);
+        drop(main);
+    }
 }
 
 /// Whether the number is that of a private free name.

@@ -19,7 +19,7 @@ use std::marker::Model;
 /// an event of a query that of its first occurrence. Free names and constructors are numbered from 1 in
 /// order of declaration; a name that a restriction makes has the number of the restriction's point.
 #[cycle(term)]
-#[derive(Debug, Drop)]
+#[derive(Debug)]
 pub enum Term {
     Var(u32),
     Free(u32),
@@ -28,6 +28,19 @@ pub enum Term {
     App(u32, Terms),
     /// A tuple and its parts.
     Tuple(Terms),
+}
+
+impl Drop for Term {
+    #[cycle(term_drop)]
+    fn drop(self) {
+        match self {
+            Term::Var(_) => {}
+            Term::Free(_) => {}
+            Term::Made(_) => {}
+            Term::App(_, part) => drop(part),
+            Term::Tuple(part) => drop(part),
+        }
+    }
 }
 
 /// Terms in order.
@@ -60,7 +73,7 @@ impl Model for Terms {
 
 /// A pattern.
 #[cycle(pattern)]
-#[derive(Debug, Drop)]
+#[derive(Debug)]
 pub enum Pat {
     /// Binds the variable of that number.
     Bind(u32),
@@ -70,6 +83,18 @@ pub enum Pat {
     App(u32, Pats),
     /// A tuple and its parts.
     Tuple(Pats),
+}
+
+impl Drop for Pat {
+    #[cycle(pattern_drop)]
+    fn drop(self) {
+        match self {
+            Pat::Bind(_) => {}
+            Pat::Equal(part) => drop(part),
+            Pat::App(_, part) => drop(part),
+            Pat::Tuple(part) => drop(part),
+        }
+    }
 }
 
 /// Patterns in order.
@@ -101,16 +126,30 @@ impl Model for Pats {
 }
 
 /// An event, numbered from 1, and its arguments.
-#[derive(Debug, Drop)]
+#[derive(Debug)]
 pub struct Atom {
     pub event: u32,
     pub args: Terms,
 }
 
+impl Drop for Atom {
+    fn drop(self) {
+        let Atom { event: _, args } = self;
+        drop(args);
+    }
+}
+
 /// Events in order.
-#[derive(Debug, Drop)]
+#[derive(Debug)]
 pub struct Atoms {
     pub items: Vec<Atom>,
+}
+
+impl Drop for Atoms {
+    fn drop(self) {
+        let Atoms { items } = self;
+        drop(items);
+    }
 }
 
 impl Model for Atoms {
@@ -128,7 +167,7 @@ impl Model for Atoms {
 }
 
 /// A process. Its nodes are its points, numbered from 1 in pre-order, each `Nil` among them.
-#[derive(Debug, Drop)]
+#[derive(Debug)]
 pub enum Process {
     /// Does nothing.
     Nil,
@@ -154,6 +193,54 @@ pub enum Process {
     /// Goes on as the first process with an entry of the table of that number, from 1, that matches the patterns and
     /// with which the condition's two terms have equal values, and as the second where there is none.
     Get(u32, Pats, Option<(Term, Term)>, Box<Process>, Box<Process>),
+}
+
+impl Drop for Process {
+    fn drop(self) {
+        match self {
+            Process::Nil => {}
+            Process::Output(part0, part1, part2) => {
+                drop(part0);
+                drop(part1);
+                drop(part2);
+            }
+            Process::Input(part0, part1, part2) => {
+                drop(part0);
+                drop(part1);
+                drop(part2);
+            }
+            Process::Par(part0, part1) => {
+                drop(part0);
+                drop(part1);
+            }
+            Process::Copies(part) => drop(part),
+            Process::New(part0, part1) => {
+                drop(part0);
+                drop(part1);
+            }
+            Process::Let(part0, part1, part2, part3) => {
+                drop(part0);
+                drop(part1);
+                drop(part2);
+                drop(part3);
+            }
+            Process::Event(part0, part1) => {
+                drop(part0);
+                drop(part1);
+            }
+            Process::Phase(_, part) => drop(part),
+            Process::Insert(_, part1, part2) => {
+                drop(part1);
+                drop(part2);
+            }
+            Process::Get(_, part1, part2, part3, part4) => {
+                drop(part1);
+                drop(part2);
+                drop(part3);
+                drop(part4);
+            }
+        }
+    }
 }
 
 impl Term {

@@ -6,7 +6,6 @@ use run_replay::Steps;
 use std::marker::Model;
 
 /// The verdict of a query. Entries of logs are counted from 1.
-#[derive(Drop)]
 pub enum Verdict {
     /// No run violates the query; this certificate shows it.
     Proved(Cert),
@@ -23,10 +22,32 @@ pub enum Verdict {
     Attack(Steps),
 }
 
+impl Drop for Verdict {
+    fn drop(self) {
+        match self {
+            Verdict::Proved(part) => drop(part),
+            Verdict::Budget(part0, part1) => {
+                drop(part0);
+                drop(part1);
+            }
+            Verdict::SizePair(part, _, _) => drop(part),
+            Verdict::SizePoint(_) => {}
+            Verdict::Unmet(part, _) => drop(part),
+            Verdict::Attack(part) => drop(part),
+        }
+    }
+}
+
 /// Verdicts in order.
-#[derive(Drop)]
 pub struct Verdicts {
     pub items: Vec<Verdict>,
+}
+
+impl Drop for Verdicts {
+    fn drop(self) {
+        let Verdicts { items } = self;
+        drop(items);
+    }
 }
 
 impl Model for Verdicts {

@@ -25,7 +25,6 @@ pub enum Shape {
 }
 
 /// A row of a chart.
-#[derive(Drop)]
 pub struct Row {
     /// The number of the step, from 1; 0 where the run starts.
     pub step: u64,
@@ -34,8 +33,19 @@ pub struct Row {
     pub text: Vec<u8>,
 }
 
+impl Drop for Row {
+    fn drop(self) {
+        let Row {
+            step: _,
+            shape,
+            text,
+        } = self;
+        drop(shape);
+        drop(text);
+    }
+}
+
 /// A run as a message sequence chart.
-#[derive(Drop)]
 pub struct Chart {
     /// Where each thread comes from.
     pub threads: Vec<Origin>,
@@ -43,4 +53,17 @@ pub struct Chart {
     pub rows: Vec<Row>,
     /// What the abbreviations `M1`, `M2`, .. stand for, in order.
     pub legend: Vec<Vec<u8>>,
+}
+
+impl Drop for Chart {
+    fn drop(self) {
+        let Chart {
+            threads,
+            rows,
+            legend,
+        } = self;
+        drop(threads);
+        drop(rows);
+        drop(legend);
+    }
 }

@@ -19,9 +19,15 @@ use std::marker::Model;
 
 /// For each query in order the least number of steps after which it is violated, 0 where it is at the start,
 /// or `None` where it never is.
-#[derive(Drop)]
 pub struct Firsts {
     pub items: Vec<Option<u64>>,
+}
+
+impl Drop for Firsts {
+    fn drop(self) {
+        let Firsts { items } = self;
+        drop(items);
+    }
 }
 
 impl Model for Firsts {

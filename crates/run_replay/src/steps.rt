@@ -4,9 +4,15 @@ use pi_model::Step;
 use std::marker::Model;
 
 /// Steps in order.
-#[derive(Drop)]
 pub struct Steps {
     pub items: Vec<Step>,
+}
+
+impl Drop for Steps {
+    fn drop(self) {
+        let Steps { items } = self;
+        drop(items);
+    }
 }
 
 impl Model for Steps {

@@ -99,13 +99,9 @@ fn spelled<B: Bank>(alloc: Global, bank: &B, clause: &Clause) -> Result<PlainCla
         return read_out(alloc, bank, clause);
     }
     let next = above_clause(alloc, bank, clause)?;
-    let read = read_out(alloc, bank, clause)?;
-    let diffs = all_bound_behind(alloc, &read.diffs, next)?;
-    Ok(PlainClause {
-        hyps: read.hyps,
-        diffs,
-        concl: read.concl,
-    })
+    let mut read = read_out(alloc, bank, clause)?;
+    read.diffs = all_bound_behind(alloc, &read.diffs, next)?;
+    Ok(read)
 }
 
 /// The clauses over trees that clauses over ids stand for.

@@ -9,7 +9,7 @@ ghost use Rattle.table_calls.specs.Verified.{CanBeVerified};
 use crate::log_rows::texts::{add_due, add_entries, add_large};
 use limits::MOST_KEYS;
 use pi_tree::Protocol;
-use query_verify::{Verdict, verdicts};
+use query_verify::{Verdict, Verdicts, verdicts};
 use ring_writer::make_ring;
 use run_replay::Steps;
 use spec_protocol_scope::{proper_rules, query_leaves, well_scoped, within_limits};
@@ -129,6 +129,11 @@ fn verdicts_told<B: Bank>(
     requires { CanBeVerified (protocol_of protocol.now) }
 {
     let all = verdicts(alloc, bank, protocol, BUDGET)?;
+    told_of(alloc, &all)
+}
+
+/// What is told of verdicts.
+fn told_of(alloc: Global, all: &Verdicts) -> Result<Told, AllocError> {
     let mut told = Told {
         words: String::new(alloc),
         whole: String::new(alloc),

@@ -26,10 +26,18 @@ pub enum Head {
 }
 
 /// What stands at a place of the bank: a variable, which has no arguments, or a symbol over earlier places.
-#[derive(PartialEq, Eq, Drop)]
+#[derive(PartialEq, Eq)]
 pub struct Shape {
     pub(crate) head: Head,
     pub(crate) args: SmallVec<Id, INLINE_ARGS>,
+}
+
+impl Drop for Shape {
+    fn drop(self) {
+        let Shape { head, args } = self;
+        drop(head);
+        drop(args);
+    }
 }
 
 impl Head {

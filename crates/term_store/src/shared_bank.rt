@@ -14,13 +14,27 @@ use term_tree::{Bank, Id, Mark, Node, SIZE_LIMIT, Sym};
 pub const FOUND_ARGS: usize = 4;
 
 /// The shared bank, where a call of `var` or `app` makes a tree only where it isn't there.
-#[derive(Drop)]
 pub struct SharedBank {
     shapes: IndexSet<Shape>,
     measures: Vec<Measure>,
     /// The shape that is looked up: no other is made for a node that is there.
     wanted: Shape,
     alloc: Global,
+}
+
+impl Drop for SharedBank {
+    fn drop(self) {
+        let SharedBank {
+            shapes,
+            measures,
+            wanted,
+            alloc,
+        } = self;
+        drop(shapes);
+        drop(measures);
+        drop(wanted);
+        drop(alloc);
+    }
 }
 
 impl Model for SharedBank {

@@ -7,18 +7,36 @@ use std::alloc::{AllocError, Global};
 use std::marker::Model;
 
 /// What stands at a place of the bank: a variable, or a symbol over earlier places.
-#[derive(Drop)]
 pub enum Shape {
     Var(u32),
     App(Sym, Vec<Id>),
 }
 
+impl Drop for Shape {
+    fn drop(self) {
+        match self {
+            Shape::Var(_) => {}
+            Shape::App(_, part) => drop(part),
+        }
+    }
+}
+
 /// A place of the bank: its shape, the size of its tree as it is told, and whether that has no variable.
-#[derive(Drop)]
 pub struct Entry {
     pub size: u64,
     pub ground: bool,
     pub shape: Shape,
+}
+
+impl Drop for Entry {
+    fn drop(self) {
+        let Entry {
+            size: _,
+            ground: _,
+            shape,
+        } = self;
+        drop(shape);
+    }
 }
 
 /// The plain bank, where each call of `var` or `app` makes one more tree.

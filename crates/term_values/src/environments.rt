@@ -12,17 +12,32 @@ use std::marker::Model;
 use std::rc::Rc;
 
 /// A slot with what it is bound to, which copies of an environment share.
-#[derive(Debug, Drop)]
+#[derive(Debug)]
 struct Binding {
     slot: Slot,
     value: Rc<Value>,
 }
 
+impl Drop for Binding {
+    fn drop(self) {
+        let Binding { slot, value } = self;
+        drop(slot);
+        drop(value);
+    }
+}
+
 /// Slots with what they are bound to, in the order in which they were bound; of two of one slot the
 /// earlier counts. Copies share the values.
-#[derive(Debug, Drop)]
+#[derive(Debug)]
 pub struct Environment {
     items: Vec<Binding>,
+}
+
+impl Drop for Environment {
+    fn drop(self) {
+        let Environment { items } = self;
+        drop(items);
+    }
 }
 
 impl Model for Environment {

@@ -156,11 +156,17 @@ fn read_values<'a>(
 }
 
 /// The value of a label.
-#[derive(Drop)]
 pub struct Valued {
     pub value: Value,
     /// Whether it, or the value of a part by the same rules, has more symbols than the limit.
     pub large: bool,
+}
+
+impl Drop for Valued {
+    fn drop(self) {
+        let Valued { value, large: _ } = self;
+        drop(value);
+    }
 }
 
 /// The numbers of the rules that a label tells: none for 0 alone; a label has a number at least.

@@ -15,11 +15,23 @@ use std::marker::Model;
 use term_tree::Id;
 
 /// Bindings of variables to terms of a bank: a finite map, and the order in which it came about.
-#[derive(Drop)]
 pub struct Binds {
     trail: Vec<Bound>,
     table: HashMap<u32, Id>,
     alloc: Global,
+}
+
+impl Drop for Binds {
+    fn drop(self) {
+        let Binds {
+            trail,
+            table,
+            alloc,
+        } = self;
+        drop(trail);
+        drop(table);
+        drop(alloc);
+    }
 }
 
 impl Model for Binds {

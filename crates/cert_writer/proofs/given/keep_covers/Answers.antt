@@ -1,4 +1,4 @@
-use Rattle.std.proofs.Common.{◌≡◌, ℕ, List, [], map, take, length, ap, subst, arith, Vec, Global}
+use Rattle.std.proofs.Common.{◌≡◌, ℕ, List, [], map, take, length, ap, subst, refl, arith, Vec, Global}
 use Rattle.std.proofs.lemmas.Grind.{common_steps}
 use Rattle.clause_form.specs.Fit.{clauses_at}
 use Rattle.cert_writer.specs.Adding.{AddsRows}
@@ -25,7 +25,7 @@ returns-clause-known g c =
     let empty : map (λ (row : Vec ℕ Global). row.items) c.new.result.items ≡ [] = ap (map (λ (row : Vec ℕ Global). row.items)) c.new.ensures.items in
     let adds = subst (λ (rows : List (List ℕ)). AddsRows (clauses_at all live) (clauses_at all (take count given)) rows covers) empty c.in_ok-cover_all.ensures in
     covers_kept all known live given c.requires.begin c.requires.begin_given c.requires.known count c.len-2.result covers _ all_given all_live adds (c.all_begin_within.ensures c.if-not-all_begin_within.false)
-    (λ i. (c.known.view_is i).live) (λ i. (c.known.view_is i).given) (λ i. (c.known.view_is i).rows.items) c.covers.view_is (λ i. (c.known.view_is i).plain)
+    refl refl refl refl refl
 
 pub slice_bounds-cover_all-end : goal.slice_bounds-cover_all-end
 slice_bounds-cover_all-end g c = grind (arith, common_steps)

@@ -4,4 +4,4 @@ use Rattle.std.specs.Prelude.{flat_map}
 use Rattle.unified_visits.proofs.excluding.Excluded.listed.Given as goal
 
 abbrev pub invariant-each : goal.invariant-each
-invariant-each l = l.all-inside.items.items ≡ flat_map rc_value (take l.block-index l.block-items)
+invariant-each l = l.all ≡ flat_map rc_value (take l.block-index l.block-items)
