@@ -1,4 +1,7 @@
 pub mod Limits
 pub mod Telling
 pub mod Noting
+pub mod Found
+pub mod Reachable
+pub mod Putting
 pub mod Placed

@@ -150,7 +150,7 @@ one_event P (Left n) e f (first, others, at) (other_first, other_others, other_a
     let same : Some (Correspondence e (first ∷ others)) ≡ Some (Correspondence f (other_first ∷ other_others)) = sym at ∙ other_at in cc
 
 -- the question of the subject at a place, and its verdict
-record AnswerAt (P : Protocol) (Q : Protocol) (budget : ℕ) (questions : List Query) (answers : List Verdict) (k : ℕ) (subject : Subject) : Type 0 where
+pub record AnswerAt (P : Protocol) (Q : Protocol) (budget : ℕ) (questions : List Query) (answers : List Verdict) (k : ℕ) (subject : Subject) : Type 0 where
   pub query : Query
   pub asked_at : slice_get questions k ≡ Some query
   pub asks : IsQuestion P subject query
@@ -189,18 +189,18 @@ pub as_many : (P : Protocol) (budget : ℕ) (subjects : List Subject) (answers :
 as_many P budget subjects answers h = answer_count (asking P h.queries) budget h.queries answers h.are ∙ question_count P subjects h.queries h.questions
 
 -- what is told to be proved is the verdict
-proved_verdict : (P : Protocol) (q : Query) (budget : ℕ) (certificate : Certificate) (v : defined.Verdict) → Tells P q (Proved certificate) v → IsVerdict P q budget v → IsVerdict P q budget (defined.Proved certificate)
+pub proved_verdict : (P : Protocol) (q : Query) (budget : ℕ) (certificate : Certificate) (v : defined.Verdict) → Tells P q (Proved certificate) v → IsVerdict P q budget v → IsVerdict P q budget (defined.Proved certificate)
 proved_verdict P q budget certificate (defined.Proved c) told is = subst (λ x. IsVerdict P q budget (defined.Proved x)) (sym told) is
 proved_verdict P q budget certificate (defined.Budget log due) told is = absurd told
 proved_verdict P q budget certificate (defined.SizePair log i j) told is = absurd told
 proved_verdict P q budget certificate (defined.SizePoint point) told is = absurd told
 proved_verdict P q budget certificate (defined.Unmet log n) told is = absurd told
 
-record HasCertificate (answer : Verdict) : Type 0 where
+pub record HasCertificate (answer : Verdict) : Type 0 where
   pub certificate : Certificate
   pub is : answer ≡ Proved certificate
 
-its_certificate : (answer : Verdict) → is_proved answer ≡ true → HasCertificate answer
+pub its_certificate : (answer : Verdict) → is_proved answer ≡ true → HasCertificate answer
 its_certificate (Proved certificate) proved = record { certificate = certificate; is = refl }
 its_certificate (Budget log due) proved = cc
 its_certificate (SizePair log i j) proved = cc
@@ -221,7 +221,7 @@ module _ (P : Protocol) (budget : ℕ) (limits : IsWithinLimits P) (rules : HasP
     is = subst (λ q. IsAnswer (asking P questions) q budget here.answer) here.asks.is here.is;
   }
 
-  never_at : (questions : List Query) (answers : List Verdict) (k : ℕ) (subject : Subject) (here : AnswerAt P (asking P questions) budget questions answers k subject) → is_proved here.answer ≡ true → IsNever P budget subject
+  pub never_at : (questions : List Query) (answers : List Verdict) (k : ℕ) (subject : Subject) (here : AnswerAt P (asking P questions) budget questions answers k subject) → is_proved here.answer ≡ true → IsNever P budget subject
   never_at questions answers k subject here proved =
       let c = its_certificate here.answer proved in
       let told : IsTold P budget here.asks.event (Proved c.certificate) = subst (IsTold P budget here.asks.event) c.is (told_at questions answers k subject here) in

@@ -1,4 +1,7 @@
 pub mod Readable
+pub mod Attacks
+pub mod AttackText
+pub mod Reached
 pub mod Explained
 pub mod Status
 pub mod Logged

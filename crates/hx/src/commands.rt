@@ -13,13 +13,22 @@ const DRAW: &str = "draw";
 
 const WHY: &str = "why";
 
+const ATTACK: &str = "attack";
+
+const REACH: &str = "reach";
+
 /// The options, which stand behind all other words of a command.
 const BUDGET: &str = "--budget";
 
 const SVG: &str = "--svg";
 
+const RUNS: &str = "--runs";
+
 /// The budget, in clauses, where none is given.
 const DEFAULT_BUDGET: u32 = 1_000;
+
+/// The budget with which it is asked whether something can happen, where none is given.
+const REACH_BUDGET: u32 = 500;
 
 /// A query of which the log is asked for, and with which budget.
 #[derive(Clone, Copy)]
@@ -48,6 +57,15 @@ pub enum Command<'a> {
     },
     /// `why FILE QUERY [--budget N]`: why the query isn't proved.
     Why(LogOf),
+    /// `attack FILE QUERY [--budget N]`: a run that violates the query.
+    Attack(LogOf),
+    /// `reach FILE [--budget N] [--runs]`: what can happen.
+    Reach {
+        /// How many clauses each saturation may keep, from 0 to the limit of budgets.
+        budget: u32,
+        /// Whether the runs are shown.
+        with_runs: bool,
+    },
 }
 
 /// What the words of a command line ask for.
@@ -74,10 +92,10 @@ fn number_in(word: &str, least: u32, most: u64) -> Option<u32> {
     }
 }
 
-/// The budget that the last words of a command tell.
-fn budget_in(words: &[String]) -> Option<u32> {
+/// The budget that the last words of a command tell, or this one where there are none.
+fn budget_in(words: &[String], default: u32) -> Option<u32> {
     match words {
-        [] => Some(DEFAULT_BUDGET),
+        [] => Some(default),
         [option, budget] if option.as_str() == BUDGET => {
             number_in(budget.as_str(), 0, MOST_BUDGET)
         }
@@ -91,7 +109,7 @@ fn log_in(words: &[String]) -> Option<LogOf> {
         return None;
     };
     let query = number_in(query.as_str(), 1, MOST_QUERIES as u64)?;
-    let budget = budget_in(options)?;
+    let budget = budget_in(options, DEFAULT_BUDGET)?;
     Some(LogOf { query, budget })
 }
 
@@ -114,6 +132,16 @@ fn draw_in(words: &[String]) -> Option<Command<'_>> {
     Some(Command::Draw { run, as_svg })
 }
 
+/// How the words behind the name of a file ask what can happen.
+fn reach_in<'a>(words: &[String]) -> Option<Command<'a>> {
+    let (options, with_runs) = match words {
+        [options @ .., last] if last.as_str() == RUNS => (options, true),
+        _ => (words, false),
+    };
+    let budget = budget_in(options, REACH_BUDGET)?;
+    Some(Command::Reach { budget, with_runs })
+}
+
 /// A command of the name of a file alone, where no word stands behind that.
 fn alone<'a>(command: Command<'a>, words: &[String]) -> Option<Command<'a>> {
     if words.is_empty() {
@@ -131,6 +159,8 @@ fn command_in<'a>(word: &str, words: &'a [String]) -> Option<Command<'a>> {
         WARN => alone(Command::Warn, words),
         DRAW => draw_in(words),
         WHY => Some(Command::Why(log_in(words)?)),
+        ATTACK => Some(Command::Attack(log_in(words)?)),
+        REACH => reach_in(words),
         _ => None,
     }
 }

@@ -1,6 +1,8 @@
 //! The second program: it shows what the verifier knows of protocols, on files of the disk, and writes to standard output.
 #![tactic(auto)]
 
+mod attack_text;
+mod attacking;
 mod call;
 mod commands;
 mod ending;
@@ -9,6 +11,7 @@ mod loading;
 mod logging;
 mod numbered;
 mod outcome;
+mod reaching;
 mod reason;
 mod refusing;
 mod showing;

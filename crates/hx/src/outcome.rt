@@ -28,6 +28,8 @@ pub enum Outcome {
     Usage,
     /// What was asked for is shown.
     Shown,
+    /// What was found is shown, and not all that was looked for was found.
+    NotFound,
     /// The protocol has no query of this number.
     NoQuery(u32),
     /// The step of this number of the run, from 1, is refused, so nothing is drawn.
@@ -61,7 +63,7 @@ pub fn status(outcome: Outcome) -> u8
 {
     match outcome {
         Outcome::Shown => 0,
-        Outcome::NoQuery(_) | Outcome::Stuck(_, _) | Outcome::LongRun => 1,
+        Outcome::NotFound | Outcome::NoQuery(_) | Outcome::Stuck(_, _) | Outcome::LongRun => 1,
         Outcome::Usage => 2,
         Outcome::Refused(Refusal::Protocol { .. }) => 3,
         Outcome::Refused(Refusal::Run { .. }) => 4,

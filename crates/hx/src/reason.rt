@@ -124,7 +124,7 @@ fn put_unmet(out: &mut Vec<u8>, unmet: Unmet<'_>) -> Result<(), AllocError>
         put_numbered(out, "tells an attack of ", steps as u64, " steps\n")?;
         return put_tree(out, unmet);
     }
-    out.extend_from_slice(b"isn't satisfied, and no attack is compiled of it\n")?;
+    out.extend_from_slice(b"isn't satisfied, and no attack is compiled of it; see `attack`\n")?;
     put_tree(out, unmet)?;
     let mut bank = SharedBank::new(unmet.setting.alloc)?;
     let put = put_forgotten(out, unmet, &mut bank);
@@ -158,12 +158,14 @@ fn put_logged(
     match &told.end {
         LogEnd::Closed => out.extend_from_slice(b"proved\n"),
         LogEnd::Spent(_) => {
-            out.extend_from_slice(b"the budget is spent before the log closes; see `log`\n")
+            out.extend_from_slice(
+                b"the budget is spent before the log closes; see `log`, `attack`\n",
+            )
         }
         LogEnd::Large(solved, unsolved) => put_words(
             out,
             format_args!(
-                "entry {solved} into {unsolved} is too large, so the log doesn't close; see `log`\n"
+                "entry {solved} into {unsolved} is too large, so the log doesn't close; see `log`, `attack`\n"
             ),
         ),
     }

@@ -1,18 +1,23 @@
 //! What each command shows.
 
-ghost use Rattle.std.specs.Prelude.{IfOk};
+ghost use Rattle.std.specs.Prelude.{◌<◌, ◌^◌, IfOk};
 ghost use Rattle.pi_tree.specs.Protocols.{protocol_of};
 ghost use Rattle.pi_tree.specs.Accessors.{IsThere};
 ghost use Rattle.pi_tree.specs.declared.accessors.Kind.TheVariants.{Query as OfQueries};
 ghost use Rattle.hx.specs.Logged.{CanBeExplained};
+ghost use Rattle.hx.specs.AttackText.{TellsFinding};
 ghost use Rattle.hx.specs.Readable.{IsReadable};
 
+use crate::attack_text::put_finding;
+use crate::attacking::{Finding, Question, attack_of};
 use crate::commands::{Command, LogOf, Request};
 use crate::impossible::impossible;
 use crate::loading::{load_protocol, load_run, read, refused_protocol};
 use crate::logging::query_log;
 use crate::outcome::Outcome;
+use crate::reaching::{Reaching, put_reach};
 use crate::reason::put_reason;
+use attack_search::Searched;
 use clause_sources::Sources;
 use clause_translate::sources;
 use hv_io::Files;
@@ -26,6 +31,13 @@ use term_store::SharedBank;
 
 /// The budget with which it is asked what can't happen, in clauses.
 const WARN_BUDGET: u64 = 500;
+
+/// What is shown, and what that comes to.
+#[derive(Drop)]
+pub(crate) struct Output {
+    pub(crate) outcome: Outcome,
+    pub(crate) text: Vec<u8>,
+}
 
 /// A protocol that was read, with its file.
 #[derive(Clone, Copy)]
@@ -178,23 +190,88 @@ fn chart_of(loaded: Loaded<'_>, steps: &Steps, as_svg: bool) -> Result<Vec<u8>, 
     }
 }
 
+/// What the call comes to where this is found of the query that it asks about.
+fn outcome_of(finding: &Finding) -> Outcome {
+    match finding {
+        Finding::Searched(Searched::Nothing(_)) => Outcome::NotFound,
+        _ => Outcome::Shown,
+    }
+}
+
+/// The text of what is found of a query: that it is proved, or a run that violates it, if one is found.
+fn finding_page(question: &Question<'_>) -> Result<Output, Outcome>
+    requires readable { IsReadable (protocol_of question.now.protocol.now) }
+    requires there { IsThere (protocol_of question.now.protocol.now) OfQueries question.now.query }
+    requires budget { question.now.budget < 2 ^ 32 }
+    ensures { IfOk result (λ page. TellsFinding (protocol_of question.now.protocol.now)
+        question.now.query question.now.budget page.text.items) }
+{
+    let finding = attack_of(question)?;
+    let outcome = outcome_of(&finding);
+    let mut text = Vec::new(question.alloc);
+    put_finding(&mut text, question.query, &finding)?;
+    Ok(Output { outcome, text })
+}
+
+/// What is found of a query.
+fn attack_page(loaded: Loaded<'_>, asked: LogOf) -> Result<Output, Outcome>
+    requires { IsReadable (protocol_of loaded.protocol.now) }
+{
+    let query = query_there(loaded.protocol, asked.query)?;
+    finding_page(&Question {
+        alloc: loaded.source.alloc,
+        protocol: loaded.protocol,
+        query,
+        budget: u64::from(asked.budget),
+    })
+}
+
+/// What can happen.
+fn reach_page(loaded: Loaded<'_>, budget: u32, with_runs: bool) -> Result<Output, Outcome>
+    requires { IsReadable (protocol_of loaded.protocol.now) }
+{
+    let reaching = Reaching {
+        alloc: loaded.source.alloc,
+        protocol: loaded.protocol,
+        budget: u64::from(budget),
+        with_runs,
+    };
+    let mut text = Vec::new(loaded.source.alloc);
+    let outcome = if put_reach(&mut text, &reaching)? {
+        Outcome::Shown
+    } else {
+        Outcome::NotFound
+    };
+    Ok(Output { outcome, text })
+}
+
+/// A text that shows all that is asked for.
+fn whole(text: Vec<u8>) -> Output {
+    Output {
+        outcome: Outcome::Shown,
+        text,
+    }
+}
+
 /// What is to be shown of a protocol.
 fn shown<F: Files>(
     loaded: Loaded<'_>,
     command: Command<'_>,
     files: &mut F,
-) -> Result<Vec<u8>, Outcome>
+) -> Result<Output, Outcome>
     requires { IsReadable (protocol_of loaded.protocol.now) }
 {
     match command {
-        Command::Points => Ok(points_of(loaded)?),
-        Command::Log(asked) => log_of(loaded, asked),
-        Command::Warn => Ok(warnings_of(loaded)?),
+        Command::Points => Ok(whole(points_of(loaded)?)),
+        Command::Log(asked) => Ok(whole(log_of(loaded, asked)?)),
+        Command::Warn => Ok(whole(warnings_of(loaded)?)),
         Command::Draw { run, as_svg } => {
             let steps = load_run(loaded.source.alloc, run, files)?;
-            chart_of(loaded, &steps, as_svg)
+            Ok(whole(chart_of(loaded, &steps, as_svg)?))
         }
-        Command::Why(asked) => reason_of(loaded, asked),
+        Command::Why(asked) => Ok(whole(reason_of(loaded, asked)?)),
+        Command::Attack(asked) => attack_page(loaded, asked),
+        Command::Reach { budget, with_runs } => reach_page(loaded, budget, with_runs),
     }
 }
 
@@ -204,7 +281,7 @@ fn shown_of<F: Files>(
     bytes: &[u8],
     command: Command<'_>,
     files: &mut F,
-) -> Result<Vec<u8>, Outcome> {
+) -> Result<Output, Outcome> {
     match read(alloc, bytes) {
         Err(why) => Err(refused_protocol(bytes, why)),
         Ok(reading) => {
@@ -218,9 +295,9 @@ fn shown_of<F: Files>(
                 source,
                 protocol: &reading.protocol,
             };
-            let text = shown(loaded, command, files);
+            let page = shown(loaded, command, files);
             drop(reading);
-            text
+            page
         }
     }
 }
@@ -230,7 +307,7 @@ pub(crate) fn page<F: Files>(
     alloc: Global,
     asked: Request<'_>,
     files: &mut F,
-) -> Result<Vec<u8>, Outcome> {
+) -> Result<Output, Outcome> {
     let bytes = load_protocol(asked.file, files)?;
     shown_of(alloc, &bytes, asked.command, files)
 }

@@ -1,0 +1,2 @@
+-- Lemmas about ids that a bank knows.
+pub mod Known
