@@ -1,6 +1,7 @@
 """`python3 second_checker check FILE REPORT`, or `replay FILE RUN`, answers as the program does.
 Nothing is searched for: what a certificate claims is computed anew from its rows."""
 
+import re
 import sys
 import threading
 from pathlib import Path
@@ -11,6 +12,9 @@ from certificates import Certificate, found
 from grammar import Parser
 from scope import protocol_of
 from translation import Translation
+
+USAGE = ("usage: verify FILE [--budget N] [--format F] | check FILE REPORT | list FILE QUERY | "
+         "replay FILE RUN | ring N")
 
 def answer(command, file, other):
     """What is printed about files, and the status (FORMATS, "What is printed")."""
@@ -39,9 +43,9 @@ def check(protocol, text):
 
 def told(arguments):
     """What is printed for these words, and the status (FORMATS, "What is printed")."""
-    options = [word for word in arguments if word.startswith("-")]
-    if options or len(arguments) != 3 or arguments[0] not in ("check", "replay"):
-        return ["usage: check FILE REPORT | replay FILE RUN"], 2
+    named = not any(re.match("-.", name) for name in arguments[1:])
+    if len(arguments) != 3 or arguments[0] not in ("check", "replay") or not named:
+        return [USAGE], 2
     try:
         return answer(*arguments)
     except OSError:
