@@ -1,5 +1,5 @@
 //! The log of a query's saturation as text: its entries with their origins, which are live, which subsumed which; of a log that
-//! doesn't close the largest clauses, and the chain of resolvents that leads to what was due; the derivation of an entry from the clauses
+//! doesn't close the largest clauses, the chain of resolvents that leads to what was due, and what is derived of the goal; the derivation of an entry from the clauses
 //! of the translation, and where the compilation of its instances to a run stops (the reconstruction of attacks from derivations:
 //! Allamigeon and Blanchet 2005).
 #![tactic(auto)]
@@ -7,6 +7,7 @@
 mod chain;
 mod columns;
 mod entries;
+mod goals;
 mod lines;
 mod paths;
 mod refusing;
@@ -15,7 +16,9 @@ pub mod stops;
 pub mod told;
 pub mod tree;
 mod tree_lines;
+mod uses;
 
+pub use crate::goals::put_goals;
 pub use crate::lines::put_log;
 pub use crate::spelling::Setting;
 pub use crate::stops::{Stop, Stopped, put_stop};

@@ -74,7 +74,11 @@ fn put_name(out: &mut Vec<u8>, log: &QueryLog, number: usize) -> Result<(), Allo
 }
 
 /// Puts the line of an entry with its size and what its clause begins with.
-fn put_sized(out: &mut Vec<u8>, shown: Shown<'_>, number: usize) -> Result<(), AllocError> {
+pub(crate) fn put_sized(
+    out: &mut Vec<u8>,
+    shown: Shown<'_>,
+    number: usize,
+) -> Result<(), AllocError> {
     let log = shown.log;
     let Some(entry) = entry_at(log, number) else {
         return Ok(());
@@ -86,7 +90,11 @@ fn put_sized(out: &mut Vec<u8>, shown: Shown<'_>, number: usize) -> Result<(), A
 }
 
 /// Puts the lines of these entries with their sizes.
-fn put_all_sized(out: &mut Vec<u8>, shown: Shown<'_>, numbers: &[usize]) -> Result<(), AllocError> {
+pub(crate) fn put_all_sized(
+    out: &mut Vec<u8>,
+    shown: Shown<'_>,
+    numbers: &[usize],
+) -> Result<(), AllocError> {
     for number in numbers {
         put_sized(out, shown, *number)?;
     }

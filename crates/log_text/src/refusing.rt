@@ -19,11 +19,24 @@ use term_tree::Id;
 /// The most steps that are told.
 const MOST_STEPS: u64 = 100_000;
 
+/// Where a thread is.
+#[derive(Clone, Copy)]
+pub(crate) enum Whereabouts {
+    /// It hasn't begun.
+    NotBegun,
+    /// It stands at this point.
+    At(u32),
+    /// It came to its end in the step of that number, from 1.
+    Ended(u64),
+    /// The step of that number, a `next`, ended it.
+    CutOff(u64),
+}
+
 /// Why something can't be done.
 #[derive(Clone, Copy)]
 pub(crate) enum Cause {
-    /// The thread doesn't stand there.
-    ThreadAway,
+    /// The thread doesn't stand there, but is elsewhere.
+    ThreadAway(Whereabouts),
     /// A name in a message isn't made by then.
     NameUnmade,
     /// The attacker doesn't have a message by then, nor does an output that waits.
@@ -90,11 +103,61 @@ fn make_all(attempt: &Attempt<'_>, conf: &mut Conf) -> Result<(), Cause>
     Ok(())
 }
 
-/// Whether the thread of that number stands at the point.
-fn stands_at(conf: &Conf, thread: u32, point: u32) -> bool {
+/// The point at which the thread of that number stands, if it stands anywhere.
+fn point_of(conf: &Conf, thread: u32) -> Option<u32> {
     match conf.threads.get(thread) {
-        Some(Thread::At(at, _)) => *at == point,
-        _ => false,
+        Some(Thread::At(point, _)) => Some(*point),
+        _ => None,
+    }
+}
+
+/// What ended the thread of that number in the last step, a `next` or another.
+fn ended_by(conf: &Conf, step: &Step) -> Whereabouts {
+    match step {
+        Step::Next => Whereabouts::CutOff(conf.steps),
+        _ => Whereabouts::Ended(conf.steps),
+    }
+}
+
+/// Where the thread of that number is behind the step, if it was there before it.
+fn moved(conf: &Conf, thread: u32, step: &Step, before: Whereabouts) -> Whereabouts {
+    match point_of(conf, thread) {
+        Some(point) => Whereabouts::At(point),
+        None => match before {
+            Whereabouts::At(_) => ended_by(conf, step),
+            _ => before,
+        },
+    }
+}
+
+/// Where the thread of that number is at the start of a run.
+fn first_place(conf: &Conf, thread: u32) -> Whereabouts {
+    match point_of(conf, thread) {
+        Some(point) => Whereabouts::At(point),
+        None => Whereabouts::NotBegun,
+    }
+}
+
+/// Makes the steps of the run, and tells where the thread of that number is behind them.
+fn make_watching(attempt: &Attempt<'_>, conf: &mut Conf, thread: u32) -> Result<Whereabouts, Cause>
+    requires limits { CanReplay (protocol_of attempt.now.protocol.now) }
+    requires run { IsConfigurationOf (protocol_of attempt.now.protocol.now) conf.old }
+    ensures { IsConfigurationOf (protocol_of attempt.now.protocol.now) conf.new }
+{
+    let state = attempt.state;
+    let mut place = first_place(conf, thread);
+    'each: for step in &state.steps {
+        make(attempt, conf, step)?;
+        place = moved(conf, thread, step, place);
+    }
+    Ok(place)
+}
+
+/// Checks that a thread stands at the point.
+fn check_place(place: Whereabouts, point: u32) -> Result<(), Cause> {
+    match place {
+        Whereabouts::At(at) if at == point => Ok(()),
+        _ => Err(Cause::ThreadAway(place)),
     }
 }
 
@@ -202,7 +265,7 @@ fn step_at(
 {
     let thread = place.thread;
     match place.process {
-        Process::Nil => Err(Cause::ThreadAway),
+        Process::Nil => Err(Cause::ThreadAway(Whereabouts::At(place.point))),
         Process::Input(..) => said(attempt, conf, thread, place.received(path)),
         Process::Let(..) => chosen(attempt.alloc, thread, place.choice(path)),
         Process::Get(table, ..) => fetched(attempt, conf, path, place, *table),
@@ -227,10 +290,8 @@ fn go_on(
     requires run { IsConfigurationOf (protocol_of attempt.now.protocol.now) conf.old }
     requires known { AreKnown attempt.now.bank.now path.now.messages.now }
 {
-    make_all(attempt, conf)?;
-    if !stands_at(conf, place.thread, place.point) {
-        return Err(Cause::ThreadAway);
-    }
+    let stands = make_watching(attempt, conf, place.thread)?;
+    check_place(stands, place.point)?;
     let step = step_at(attempt, conf, path, place)?;
     let made = make(attempt, conf, &step);
     drop(step);

@@ -8,13 +8,15 @@ ghost use Rattle.clause_instances.specs.Instances.{IsKnownInstance, AreKnownInst
 
 use crate::columns::put_numbered;
 use crate::paths::{Path, Place, are_same, failing_place};
-use crate::refusing::{Attempt, Cause, try_place, try_terms};
+use crate::refusing::{Attempt, Cause, Whereabouts, try_place, try_terms};
 use crate::spelling::{Setting, put_point, put_terms};
 use crate::tree_lines::put_use;
+use crate::uses::put_uses;
 use attack_state::State;
 use clause_instances::{Instance, Instances};
 use clause_sources::{Choice, Sources};
 use hv_io::put_words;
+use pi_tree::{Kind, Process};
 use std::alloc::AllocError;
 use term_store::SharedBank;
 use term_tree::Id;
@@ -70,7 +72,7 @@ impl<'a> Stopped<'a> {
     }
 
     /// The instance of that index.
-    fn instance(&self, index: usize) -> Option<&'a Instance>
+    pub(crate) fn instance(&self, index: usize) -> Option<&'a Instance>
         requires { AreKnownInstances self.now.bank.now self.now.instances.now }
         ensures { IfSome result (λ found. IsKnownInstance self.now.bank.now found.now) }
     {
@@ -155,7 +157,7 @@ fn earlier<'a>(stopped: &Stopped<'a>, path: &Path<'_>, place: &Place<'_>) -> Opt
 }
 
 /// Puts an instance: the number of its clause, and what is done where that is used.
-fn put_clause_use(
+pub(crate) fn put_clause_use(
     out: &mut Vec<u8>,
     stopped: &Stopped<'_>,
     instance: &Instance,
@@ -201,13 +203,53 @@ fn put_conflict(
     put_deed(out, stopped, path, place)
 }
 
+/// Whether an output stands at the point.
+fn is_output(setting: Setting<'_>, point: u32) -> bool {
+    if point == 0 || point > setting.protocol.count(Kind::Point) {
+        return false;
+    }
+    matches!(setting.protocol.node(point), Process::Output(..))
+}
+
+/// Puts that a thread stands at the point in place of where it is wanted.
+fn put_standing(out: &mut Vec<u8>, setting: Setting<'_>, point: u32) -> Result<(), AllocError> {
+    out.extend_from_slice(b"its thread stands at ")?;
+    put_point(out, setting, point)?;
+    if is_output(setting, point) {
+        out.extend_from_slice(b" and nobody receives that")?;
+    }
+    Ok(())
+}
+
+/// Puts where a thread is in place of where it is wanted.
+fn put_whereabouts(
+    out: &mut Vec<u8>,
+    setting: Setting<'_>,
+    place: Whereabouts,
+) -> Result<(), AllocError> {
+    match place {
+        Whereabouts::NotBegun => out.extend_from_slice(b"its thread hasn't begun by then"),
+        Whereabouts::At(point) => put_standing(out, setting, point),
+        Whereabouts::Ended(step) => put_words(
+            out,
+            format_args!("its thread came to its end before, in step {step}"),
+        ),
+        Whereabouts::CutOff(step) => put_words(
+            out,
+            format_args!("step {step}, the `next` of a phase, ended its thread before"),
+        ),
+    }
+}
+
 /// Puts why something can't be done; what can be is too long.
-fn put_cause(out: &mut Vec<u8>, tried: Result<(), Cause>) -> Result<(), AllocError> {
+fn put_cause(
+    out: &mut Vec<u8>,
+    setting: Setting<'_>,
+    tried: Result<(), Cause>,
+) -> Result<(), AllocError> {
     match tried {
         Ok(()) | Err(Cause::TooLong) => out.extend_from_slice(b"it takes more than 100000 steps"),
-        Err(Cause::ThreadAway) => {
-            out.extend_from_slice(b"its thread doesn't stand there by then")
-        }
+        Err(Cause::ThreadAway(place)) => put_whereabouts(out, setting, place),
         Err(Cause::NameUnmade) => out.extend_from_slice(b"a name isn't made by then"),
         Err(Cause::MessageUnknown) => out.extend_from_slice(b"nobody has a message by then"),
         Err(Cause::EntryMissing) => {
@@ -218,7 +260,12 @@ fn put_cause(out: &mut Vec<u8>, tried: Result<(), Cause>) -> Result<(), AllocErr
     }
 }
 
-/// Puts why something can't be done, and the messages with which that is so.
+/// Whether a thread is elsewhere.
+fn is_away(tried: &Result<(), Cause>) -> bool {
+    matches!(tried, Err(Cause::ThreadAway(_)))
+}
+
+/// Puts why something can't be done, and the messages with which that is so where they matter.
 fn put_failure(
     out: &mut Vec<u8>,
     stopped: &Stopped<'_>,
@@ -227,8 +274,9 @@ fn put_failure(
 ) -> Result<(), AllocError>
     requires { AreKnown stopped.now.bank.now messages.now }
 {
-    put_cause(out, tried)?;
-    if !messages.is_empty() {
+    let are_shown = !messages.is_empty() && !is_away(&tried);
+    put_cause(out, stopped.setting, tried)?;
+    if are_shown {
         out.push(b':')?;
         put_terms(out, stopped.setting, stopped.bank, messages)?;
     }
@@ -305,7 +353,7 @@ fn put_counts(out: &mut Vec<u8>, stop: &Stop, instances: usize) -> Result<(), Al
     )
 }
 
-/// Puts where the compilation stopped.
+/// Puts where the compilation stopped, and all uses of clauses: those that are done, and those that aren't.
 pub fn put_stop(out: &mut Vec<u8>, stopped: &Stopped<'_>) -> Result<(), AllocError>
     requires limited { CanReplay (protocol_of stopped.now.setting.protocol.now) }
     requires known { AreKnownInstances stopped.now.bank.now stopped.now.instances.now }
@@ -313,8 +361,8 @@ pub fn put_stop(out: &mut Vec<u8>, stopped: &Stopped<'_>) -> Result<(), AllocErr
     let stop = stopped.stop;
     let instances = stopped.instances;
     put_counts(out, stop, instances.items.len())?;
-    match stopped.instance(stop.instance) {
-        None => Ok(()),
-        Some(instance) => put_instance(out, stopped, instance),
+    if let Some(instance) = stopped.instance(stop.instance) {
+        put_instance(out, stopped, instance)?;
     }
+    put_uses(out, stopped)
 }

@@ -40,12 +40,20 @@ there_more P all subject there is other has = elim (Contains-push_cases all subj
   | inr same ↦ subst (IsSubject P) same is
 ]
 
+-- no subjects are there, and one more event is
+pub none_there : (P : Protocol) → AreSubjects P []
+none_there P subject has = absurd (contains_none subject has)
+
+pub event_more : (P : Protocol) (all more : List Subject) (index : ℕ) → more ≡ all ++ Event (index + 1) ∷ [] → index < length P.events → AreSubjects P all → AreSubjects P more
+event_more P all more index is within there =
+    let found = there-numbered P.events (index + 1) (omega arith) (omega (arith, within)) in
+    subst (AreSubjects P) (sym is) (there_more P all (Event (index + 1)) there (record { event = any_event (index + 1) found.0.arity; about = (found.0, found.1, refl) }))
+
 -- one more event
 pub one_more_event : (P : Protocol) (all more : List Subject) (index : ℕ) → more ≡ all ++ Event (index + 1) ∷ [] → index < length P.events → AreUpTo P index 0 all → AreUpTo P (index + 1) 0 more
 one_more_event P all more index is within so_far =
-    let found = there-numbered P.events (index + 1) (omega arith) (omega (arith, within)) in
     subst (AreUpTo P (index + 1) 0) (sym is) (record {
-      there = there_more P all (Event (index + 1)) so_far.there (record { event = any_event (index + 1) found.0.arity; about = (found.0, found.1, refl) });
+      there = event_more P all (all ++ Event (index + 1) ∷ []) index refl within so_far.there;
       events_listed = up_to_next;
       lefts_listed = λ number event least about. Contains-append_left all (Event (index + 1) ∷ []) (Left number) (so_far.lefts_listed number event least about);
     })

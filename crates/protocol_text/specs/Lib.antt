@@ -1,3 +1,4 @@
 pub mod Spots
 pub mod Questions
 pub mod Asking
+pub mod TableUses

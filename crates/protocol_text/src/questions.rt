@@ -77,6 +77,22 @@ fn events(alloc: Global, protocol: &Protocol) -> Result<Vec<Subject>, AllocError
     Ok(all)
 }
 
+/// The events of a protocol behind the first so many.
+pub fn events_behind(
+    alloc: Global,
+    protocol: &Protocol,
+    first: u32,
+) -> Result<Vec<Subject>, AllocError>
+    requires limits { IsWithinLimits (protocol_of protocol.now) }
+    ensures { IfOk result (λ all. AreSubjects (protocol_of protocol.now) all.items) }
+{
+    let mut all = Vec::new(alloc);
+    for index in first..protocol.count(Kind::Event) {
+        all.push(Subject::Event(index + 1))?;
+    }
+    Ok(all)
+}
+
 /// Whether the query is a correspondence that has alternatives.
 fn has_alternatives(query: &Query) -> bool
     ensures { result ≡ has_alternatives (query_of query.now) }

@@ -116,16 +116,21 @@ impl Source<'_> {
         }
     }
 
-    /// Puts the line of the file in which a token stands, and a colon.
-    pub(crate) fn put_line(&self, text: &mut Text, number: usize) {
+    /// The line of the file in which a token stands, from 1.
+    pub(crate) fn line(&self, number: usize) -> u64 {
         let tokens = self.tokens;
         let at = match tokens.items.get(number) {
             None => self.bytes.len(),
             Some(token) => token.from.min(self.bytes.len()),
         };
         let (line, _) = place(self.bytes, at);
+        line
+    }
+
+    /// Puts the line of the file in which a token stands, and a colon.
+    pub(crate) fn put_line(&self, text: &mut Text, number: usize) {
         text.put(b"line ");
-        text.put_number(line);
+        text.put_number(self.line(number));
         text.put(b": ");
     }
 }

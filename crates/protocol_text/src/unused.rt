@@ -41,6 +41,13 @@ fn uses_of(source: Source<'_>) -> Result<Uses, AllocError> {
     Ok(uses)
 }
 
+/// The words that stand in queries, in the main process, and in the macros that are used.
+pub(crate) fn words_in_use(source: Source<'_>) -> Result<WordSet, AllocError> {
+    let Uses { in_use, in_rules } = uses_of(source)?;
+    drop(in_rules);
+    Ok(in_use)
+}
+
 /// Puts the token of a name, where nothing in use has its word, nor a rule where rules count.
 fn put_name(text: &mut Text, source: Source<'_>, uses: &Uses, token: usize, rules_count: bool) {
     let word = source.text(token);

@@ -9,3 +9,9 @@ decreases-note_next l = l.left
 
 abbrev pub decreases-note_unit : goal.decreases-note_unit
 decreases-note_unit l = l.left
+
+abbrev pub decreases-note_macro : goal.decreases-note_macro
+decreases-note_macro l = l.left
+
+abbrev pub decreases-note_node : goal.decreases-note_node
+decreases-note_node l = l.left
