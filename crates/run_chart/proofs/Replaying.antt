@@ -1,5 +1,5 @@
 -- What is drawn of a run, by what its replay shows.
-use Rattle.std.proofs.Common.{◌≡◌, ℕ, ◌<◌, Option, List, length, map, subst, arith}
+use Rattle.std.proofs.Common.{◌≡◌, ℕ, ◌<◌, Option, List, length, map, subst, sym, arith}
 use Rattle.std.proofs.lemmas.List.{length-map}
 use Rattle.spec_calculus.specs.Syntax.{Protocol}
 use Rattle.spec_calculus.specs.Runs as calculus
@@ -13,11 +13,19 @@ use Rattle.run_replay.specs.Replay.{Stuck, IsReplayOf}
 use Rattle.run_replay.specs.Shown.{Replays}
 use Rattle.run_replay.specs.declared.replaying.Replayed.{Replayed}
 use Rattle.run_replay.specs.declared.replaying.Replayed.TheVariants as replayed
-use Rattle.run_chart.specs.Drawn.{DoesReplay}
+use Rattle.run_chart.specs.declared.chart.Chart.{Chart}
+use Rattle.run_chart.specs.Drawn.{HasRows, IsChartOf}
 
--- one that replays has a chart
-pub done_drawn : (P : Protocol) (steps : List calculus.Step) (shown : Replayed) (end : Conf) (firsts : List (Option ℕ)) → Replays P steps shown → shown ≡ replayed.Done end firsts → DoesReplay P steps
-done_drawn P steps shown end firsts told is = let done = subst (λ r. Replays P steps r) is told in (configuration_of end, firsts, done.0)
+-- one that replays has a chart, with the rows of its steps
+pub done_drawn : (P : Protocol) (steps : List Step) (shown : Replayed) (end : Conf) (firsts : List (Option ℕ)) (chart : Chart) → Replays P (map step_of steps) shown → shown ≡ replayed.Done end firsts → HasRows firsts (length steps) chart → IsChartOf P (map step_of steps) chart
+done_drawn P steps shown end firsts chart told is rows =
+    let done = subst (λ r. Replays P (map step_of steps) r) is told in
+    record {
+      end = configuration_of end;
+      firsts = firsts;
+      replays = done.0;
+      rows = subst (λ n. HasRows firsts n chart) (sym (length-map steps step_of)) rows;
+    }
 
 -- of any other the step is told
 pub stuck_drawn : (P : Protocol) (steps : List calculus.Step) (shown : Replayed) (number : ℕ) (error : StepError) → Replays P steps shown → shown ≡ replayed.Stuck number error → IsReplayOf P steps (Stuck number (refusal_of error))

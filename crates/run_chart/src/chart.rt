@@ -1,5 +1,7 @@
 //! A chart as a value.
 
+use crate::legend::Legend;
+
 /// Where a thread comes from.
 #[derive(Clone, Copy)]
 pub enum Origin {
@@ -11,17 +13,34 @@ pub enum Origin {
     Session(u32),
 }
 
-/// How a row is drawn. Columns are named by their threads, numbered from 1; 0 is the attacker's.
+/// A thread of a chart.
+pub struct Head {
+    pub origin: Origin,
+    /// The macro in which it stands where it first does something in one; empty where it does nothing in one.
+    pub role: Vec<u8>,
+}
+
+impl Drop for Head {
+    fn drop(self) {
+        let Head { origin, role } = self;
+        drop(origin);
+        drop(role);
+    }
+}
+
+/// How a row is drawn. Threads are numbered from 1; 0 is the attacker.
 #[derive(Clone, Copy)]
 pub enum Shape {
-    /// A message goes from the first column to the second.
+    /// A thread begins.
+    Begin(u32),
+    /// A message goes from the first to the second.
     Arrow(u32, u32),
-    /// Something happens in one column.
+    /// Something happens in one.
     Note(u32),
     /// Something is so for the whole run from here on: a phase begins.
     Bar,
-    /// A query is violated from here on.
-    Violation,
+    /// The query of that number, from 1, is violated from here on.
+    Violation(u64),
 }
 
 /// A row of a chart.
@@ -29,7 +48,7 @@ pub struct Row {
     /// The number of the step, from 1; 0 where the run starts.
     pub step: u64,
     pub shape: Shape,
-    /// What is written there.
+    /// What is written there; nothing where a thread begins or a query is violated.
     pub text: Vec<u8>,
 }
 
@@ -47,12 +66,12 @@ impl Drop for Row {
 
 /// A run as a message sequence chart.
 pub struct Chart {
-    /// Where each thread comes from.
-    pub threads: Vec<Origin>,
+    /// The threads in order.
+    pub threads: Vec<Head>,
     /// The rows, from above.
     pub rows: Vec<Row>,
     /// What the abbreviations `M1`, `M2`, .. stand for, in order.
-    pub legend: Vec<Vec<u8>>,
+    pub legend: Legend,
 }
 
 impl Drop for Chart {

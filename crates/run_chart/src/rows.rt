@@ -1,15 +1,18 @@
-//! The rows of a step.
+//! The row of a step.
 
-use crate::chart::{Chart, Origin, Row, Shape};
+ghost use Rattle.std.specs.Prelude.{◌≡◌, None, IfOk};
+ghost use Rattle.run_chart.specs.Rows as told;
+ghost use Rattle.run_chart.specs.Rows.{query_in, told_of};
+
+use crate::chart::{Head, Origin, Row, Shape};
 use crate::drawing::Setting;
-use crate::points::{node_at, variables_at};
+use crate::grounds::{Standing, point_of, put_slot, put_term, standing_of, variables_at};
+use crate::legend::{Legend, put_arguments, put_short};
 use crate::texts::Text;
-use crate::values::put_short;
-use pi_model::{Conf, Environment, Slot, Step, Thread};
-use pi_tree::{Process, Value};
-use protocol_text::{declared_word, point_word};
+use pi_model::{Conf, Slot, Step, Thread};
+use pi_tree::Process;
+use protocol_text::declared_word;
 use std::alloc::AllocError;
-use term_values::evaluate;
 
 /// A step that was made.
 #[derive(Clone, Copy)]
@@ -20,18 +23,12 @@ pub(crate) struct Made<'a> {
     pub(crate) step: &'a Step,
     /// The point at which its thread stood; 0 where it has none.
     pub(crate) point: u32,
-}
-
-/// Where the thread of that number stands, and what it has bound.
-fn standing(conf: &Conf, number: u32) -> Option<(u32, &Environment)> {
-    match conf.threads.get(number) {
-        Some(Thread::At(point, environment)) => Some((*point, environment)),
-        _ => None,
-    }
+    /// What it stands on.
+    pub(crate) ground: &'a Text,
 }
 
 /// The number of the step's thread, of two the one that sends; 0 where the step is the attacker's.
-fn thread_of(step: &Step) -> u32 {
+pub(crate) fn thread_of(step: &Step) -> u32 {
     match step {
         Step::Build(_, _) | Step::Reduce(_, _, _) | Step::Part(_, _) | Step::Fresh | Step::Next =>
             0,
@@ -50,28 +47,41 @@ fn thread_of(step: &Step) -> u32 {
     }
 }
 
-/// The point at which the step's thread stands; 0 where it has none.
-pub(crate) fn point_of(conf: &Conf, step: &Step) -> u32 {
-    match standing(conf, thread_of(step)) {
-        None => 0,
-        Some((point, _)) => point,
-    }
-}
-
-/// Adds a row with this text.
-pub(crate) fn add_row(
-    chart: &mut Chart,
-    step: u64,
-    shape: Shape,
-    text: Text,
+/// Notes the macro in which the thread of that number stands, where none is noted.
+fn note_role(
+    heads: &mut Vec<Head>,
+    setting: Setting<'_>,
+    conf: &Conf,
+    thread: u32,
 ) -> Result<(), AllocError> {
-    let text = text.finish()?;
-    chart.rows.push(Row { step, shape, text })?;
+    if let Some(head) = heads.get_mut((thread as usize).wrapping_sub(1)) {
+        if head.role.is_empty() {
+            let role = setting.variables.role(point_of(conf, thread));
+            head.role.extend_from_slice(role)?;
+        }
+    }
     Ok(())
 }
 
+/// Notes the macros in which the threads of a step stand that do something in it, in the configuration before the step.
+pub(crate) fn note_roles(
+    heads: &mut Vec<Head>,
+    setting: Setting<'_>,
+    conf: &Conf,
+    step: &Step,
+) -> Result<(), AllocError> {
+    match step {
+        Step::Split(_) | Step::Copy(_) => Ok(()),
+        Step::Pass(sender, receiver) => {
+            note_role(heads, setting, conf, *sender)?;
+            note_role(heads, setting, conf, *receiver)
+        }
+        _ => note_role(heads, setting, conf, thread_of(step)),
+    }
+}
+
 /// Puts the known value of that number, from 1, and its number.
-fn put_known(out: &mut Text, legend: &mut Vec<Vec<u8>>, made: Made<'_>, number: usize) {
+fn put_known(out: &mut Text, legend: &mut Legend, made: Made<'_>, number: usize) {
     let conf = made.conf;
     out.put_number(b"[", number as u64);
     out.put(b"] ");
@@ -81,50 +91,21 @@ fn put_known(out: &mut Text, legend: &mut Vec<Vec<u8>>, made: Made<'_>, number: 
 }
 
 /// Puts a word and the value that the attacker knows last.
-fn put_last(out: &mut Text, legend: &mut Vec<Vec<u8>>, made: Made<'_>, word: &[u8]) {
+fn put_last(out: &mut Text, legend: &mut Legend, made: Made<'_>, word: &[u8]) {
     let conf = made.conf;
     out.put(word);
     put_known(out, legend, made, conf.known.items.len());
 }
 
 /// Puts the message of the output at which the thread stood, which has bound so much.
-fn put_message(
-    out: &mut Text,
-    legend: &mut Vec<Vec<u8>>,
-    made: Made<'_>,
-    environment: &Environment,
-) {
-    if let Some(Process::Output(_, message, _)) = node_at(made.setting.protocol, made.point) {
-        match evaluate(message, made.setting.alloc, environment) {
-            Ok(value) => {
-                put_short(out, legend, made.setting, &value);
-                drop(value);
-            }
-            Err(_) => out.note_lack(),
-        }
-    }
-}
-
-/// Puts values in parentheses, long ones abbreviated.
-fn put_arguments(
-    out: &mut Text,
-    legend: &mut Vec<Vec<u8>>,
-    setting: Setting<'_>,
-    values: &[Value],
-) {
-    let mut mark = b'(';
-    for value in values {
-        out.push(mark);
-        mark = b',';
-        put_short(out, legend, setting, value);
-    }
-    if !values.is_empty() {
-        out.push(b')');
+fn put_message(out: &mut Text, legend: &mut Legend, made: Made<'_>, standing: Standing<'_>) {
+    if let Some(Process::Output(_, message, _)) = made.setting.node(made.point) {
+        put_term(out, legend, standing, message);
     }
 }
 
 /// Puts the event that was performed last.
-fn put_event(out: &mut Text, legend: &mut Vec<Vec<u8>>, made: Made<'_>) {
+fn put_event(out: &mut Text, legend: &mut Legend, made: Made<'_>) {
     let conf = made.conf;
     out.put(b"event ");
     if let Some(happened) = conf.events.items.last() {
@@ -135,7 +116,7 @@ fn put_event(out: &mut Text, legend: &mut Vec<Vec<u8>>, made: Made<'_>) {
 }
 
 /// Puts the entry that was written last.
-fn put_entry(out: &mut Text, legend: &mut Vec<Vec<u8>>, made: Made<'_>) {
+fn put_entry(out: &mut Text, legend: &mut Legend, made: Made<'_>) {
     let conf = made.conf;
     out.put(b"insert ");
     if let Some(held) = conf.entries.items.last() {
@@ -145,103 +126,67 @@ fn put_entry(out: &mut Text, legend: &mut Vec<Vec<u8>>, made: Made<'_>) {
     }
 }
 
-/// Puts what a slot is called: a variable as the file spells it, or `$` and its number.
-fn put_slot(out: &mut Text, setting: Setting<'_>, slot: Slot) {
-    match slot {
-        Slot::Var(number) => {
-            let word = setting.variables.word(number);
-            if word.is_empty() {
-                out.put_number(b"$", u64::from(number));
-            } else {
-                out.put(word);
-            }
-        }
-        Slot::Made(point) => {
-            out.put(b"new ");
-            out.put(point_word(setting.protocol, point));
-        }
-    }
-}
-
 /// Puts a slot and what it is bound to.
-fn put_binding(
-    out: &mut Text,
-    legend: &mut Vec<Vec<u8>>,
-    setting: Setting<'_>,
-    environment: &Environment,
-    slot: Slot,
-) {
-    put_slot(out, setting, slot);
+fn put_binding(out: &mut Text, legend: &mut Legend, standing: Standing<'_>, slot: Slot) {
+    put_slot(out, standing.setting, slot);
     out.put(b" = ");
-    if let Some(value) = environment.look_up(slot) {
-        put_short(out, legend, setting, value);
+    if let Some(value) = standing.environment.look_up(slot) {
+        put_short(out, legend, standing.setting, value);
     }
 }
 
 /// Puts what these variables are bound to, a blank before the first and a comma between each two.
-fn put_bindings(
-    out: &mut Text,
-    legend: &mut Vec<Vec<u8>>,
-    setting: Setting<'_>,
-    environment: &Environment,
-    variables: &[u32],
-) {
-    for (index, number) in variables.iter().enumerate() {
-        if index != 0 {
-            out.push(b',');
-        }
-        out.push(b' ');
-        put_binding(out, legend, setting, environment, Slot::Var(*number));
+fn put_bindings(out: &mut Text, legend: &mut Legend, standing: Standing<'_>, variables: &[u32]) {
+    let mut mark: &[u8] = b" ";
+    for number in variables {
+        out.put(mark);
+        mark = b", ";
+        put_binding(out, legend, standing, Slot::Var(*number));
     }
 }
 
 /// Puts what the patterns bound where the thread stood.
-fn put_bound(out: &mut Text, legend: &mut Vec<Vec<u8>>, made: Made<'_>, environment: &Environment) {
-    match variables_at(made.setting.alloc, made.setting.protocol, made.point) {
-        Ok(variables) => put_bindings(out, legend, made.setting, environment, &variables),
+fn put_bound(out: &mut Text, legend: &mut Legend, made: Made<'_>, standing: Standing<'_>) {
+    match variables_at(made.setting, made.setting.node(made.point)) {
+        Ok(variables) => put_bindings(out, legend, standing, &variables),
         Err(_) => out.note_lack(),
     }
 }
 
-/// Where the row of a step is drawn; none where it has no row.
-fn shape_of(step: &Step) -> Option<Shape> {
+/// Where the row of a step is drawn, behind which there are so many threads.
+fn shape_of(step: &Step, threads: usize) -> Shape
+    ensures { query_in result ≡ None }
+{
     match step {
-        Step::Split(_) | Step::Copy(_) => None,
-        Step::Pass(sender, receiver) => Some(Shape::Arrow(*sender, *receiver)),
-        Step::Hear(thread) => Some(Shape::Arrow(*thread, 0)),
-        Step::Say(thread, _) => Some(Shape::Arrow(0, *thread)),
-        Step::Next => Some(Shape::Bar),
-        _ => Some(Shape::Note(thread_of(step))),
+        Step::Split(_) | Step::Copy(_) => Shape::Begin(threads.min(u32::MAX as usize) as u32),
+        Step::Pass(sender, receiver) => Shape::Arrow(*sender, *receiver),
+        Step::Hear(thread) => Shape::Arrow(*thread, 0),
+        Step::Say(thread, _) => Shape::Arrow(0, *thread),
+        Step::Next => Shape::Bar,
+        _ => Shape::Note(thread_of(step)),
     }
 }
 
 /// Puts what is told of a step by what its thread has bound.
-fn put_standing(
-    out: &mut Text,
-    legend: &mut Vec<Vec<u8>>,
-    made: Made<'_>,
-    environment: &Environment,
-) {
+fn put_standing(out: &mut Text, legend: &mut Legend, made: Made<'_>, standing: Standing<'_>) {
     match made.step {
-        Step::Make(_) => {
-            let slot = Slot::Made(made.point);
-            put_binding(out, legend, made.setting, environment, slot);
-        }
-        Step::Pass(_, _) => put_message(out, legend, made, environment),
+        Step::Make(_) => put_binding(out, legend, standing, Slot::Made(made.point)),
+        Step::Pass(_, _) => put_message(out, legend, made, standing),
         Step::Get(_, _) => {
             out.put(b"get");
-            put_bound(out, legend, made, environment);
+            put_bound(out, legend, made, standing);
         }
         _ => {
             out.put(b"then");
-            put_bound(out, legend, made, environment);
+            put_bound(out, legend, made, standing);
         }
     }
 }
 
-/// Puts what is told of a step.
-fn put_step(out: &mut Text, legend: &mut Vec<Vec<u8>>, made: Made<'_>) {
+/// Puts what is told of a step, but for what it stands on.
+fn put_result(out: &mut Text, legend: &mut Legend, made: Made<'_>) {
     match made.step {
+        Step::Split(_) | Step::Copy(_) => {}
         Step::Build(_, _) => put_last(out, legend, made, b"makes "),
         Step::Reduce(_, _, _) | Step::Part(_, _) => put_last(out, legend, made, b"finds "),
         Step::Fresh => put_last(out, legend, made, b"new "),
@@ -252,8 +197,8 @@ fn put_step(out: &mut Text, legend: &mut Vec<Vec<u8>>, made: Made<'_>) {
         Step::Mark(_) => put_event(out, legend, made),
         Step::Insert(_) => put_entry(out, legend, made),
         step => {
-            if let Some((_, environment)) = standing(made.conf, thread_of(step)) {
-                put_standing(out, legend, made, environment);
+            if let Some(standing) = standing_of(made.setting, made.conf, thread_of(step)) {
+                put_standing(out, legend, made, standing);
             }
         }
     }
@@ -269,23 +214,27 @@ fn origin_of(made: Made<'_>) -> Option<Origin> {
     }
 }
 
-/// Adds the column of the thread that a step begins.
-fn add_thread(chart: &mut Chart, made: Made<'_>) -> Result<(), AllocError> {
+/// Adds the thread that a step begins.
+pub(crate) fn add_thread(heads: &mut Vec<Head>, made: Made<'_>) -> Result<(), AllocError> {
     if let Some(origin) = origin_of(made) {
-        chart.threads.push(origin)?;
+        let alloc = made.setting.alloc;
+        heads.push(Head {
+            origin,
+            role: Vec::new(alloc),
+        })?;
     }
     Ok(())
 }
 
-/// Adds the column and the row of a step that was made.
-pub(crate) fn put_rows(chart: &mut Chart, made: Made<'_>) -> Result<(), AllocError> {
-    add_thread(chart, made)?;
-    match shape_of(made.step) {
-        None => Ok(()),
-        Some(shape) => {
-            let mut text = Text::new(made.setting.alloc);
-            put_step(&mut text, &mut chart.legend, made);
-            add_row(chart, made.conf.steps, shape, text)
-        }
-    }
+/// The row of a step that was made.
+pub(crate) fn row_of(legend: &mut Legend, made: Made<'_>, step: u64) -> Result<Row, AllocError>
+    ensures { IfOk result (λ row. told_of row ≡ told.Made step) }
+{
+    let mut text = Text::new(made.setting.alloc);
+    put_result(&mut text, legend, made);
+    text.put_text(made.ground);
+    let text = text.finish()?;
+    let conf = made.conf;
+    let shape = shape_of(made.step, conf.threads.items.len());
+    Ok(Row { step, shape, text })
 }

@@ -1,146 +1,318 @@
 //! A chart as text.
 
 use crate::chart::{Chart, Row, Shape};
-use crate::layout::{columns, place_of, put_heading};
+use crate::labels::{heading, label};
+use crate::layout::{Layout, lay_out};
 use crate::texts::Text;
 use std::alloc::{AllocError, Global};
 
-/// How wide a column is, in letters.
-const COLUMN: usize = 32;
+/// How wide a column is at least and at most, in letters.
+const NARROWEST: usize = 10;
+
+const WIDEST: usize = 32;
 
 /// Where the first lifeline stands.
 const FIRST: usize = 8;
 
-/// Where the lifeline of the column of that place stands.
-fn line_at(place: usize) -> usize {
-    place.saturating_mul(COLUMN).saturating_add(FIRST)
+/// How many letters a heading and a note may have where the columns are narrower.
+const HEADING: usize = 24;
+
+const NOTE: usize = 72;
+
+/// How many letters of a line there are for each thread that has a column of its own.
+const OWN: usize = 40;
+
+/// A chart that is printed.
+#[derive(Clone, Copy)]
+struct Page<'a> {
+    alloc: Global,
+    chart: &'a Chart,
+    layout: &'a Layout,
+    /// How wide a line is.
+    width: usize,
+    /// How wide a column is.
+    column: usize,
 }
 
-/// What stands at a place of a line where no text does: the lifelines, or from the first of them on a bar that is made of that mark.
-fn ground_at(place: usize, bar: Option<u8>) -> u8 {
-    if place < FIRST {
-        return b' ';
+/// How wide a column is where a line has that width and so many columns: a quarter of it stands right of the last lifeline.
+fn column_width(width: usize, columns: usize) -> usize {
+    let room = width.saturating_sub(FIRST).saturating_sub(width / 4);
+    let gaps = columns.saturating_sub(1).max(1);
+    (room / gaps).max(NARROWEST).min(WIDEST)
+}
+
+impl Page<'_> {
+    /// Where the lifelines of a column stand.
+    fn line_at(&self, column: usize) -> usize {
+        column.saturating_mul(self.column).saturating_add(FIRST)
     }
-    match bar {
-        Some(mark) => mark,
-        None => {
-            if (place - FIRST) % COLUMN == 0 {
-                b'|'
-            } else {
-                b' '
+
+    /// Where the lifeline of a thread stands.
+    fn lifeline_at(&self, thread: u32) -> usize {
+        let layout = self.layout;
+        self.line_at(layout.column(thread))
+    }
+
+    /// Where a text of that length stands that belongs to that place, and how many letters of it are shown, of so many at most: where
+    /// the line ends before it, it begins further to the left, and still right of the lifeline before.
+    fn fitted(&self, place: usize, length: usize, most: usize) -> (usize, usize) {
+        let before = place.saturating_sub(self.column);
+        let first = before.saturating_add(1).max(FIRST);
+        let last = self.width.saturating_sub(length.min(most));
+        let begin = place.min(last).max(first);
+        let room = self.width.saturating_sub(begin).max(NARROWEST);
+        (begin, room.min(most))
+    }
+
+    /// Where a text of that length in a row begins, and how many letters of it are shown.
+    fn text_at(&self, row: &Row, length: usize) -> (usize, usize) {
+        match row.shape {
+            Shape::Begin(thread) => {
+                let most = self.column.saturating_sub(1).max(HEADING);
+                self.fitted(self.lifeline_at(thread), length, most)
             }
+            Shape::Arrow(from, to) => {
+                let (begin, end) = (self.lifeline_at(from), self.lifeline_at(to));
+                (
+                    begin.min(end).saturating_add(2),
+                    begin.abs_diff(end).saturating_sub(3),
+                )
+            }
+            Shape::Note(thread) => {
+                let place = self.lifeline_at(thread).saturating_add(2);
+                self.fitted(place, length, self.column.saturating_sub(3).max(NOTE))
+            }
+            Shape::Bar | Shape::Violation(_) => (FIRST + 4, self.width),
         }
     }
 }
 
-/// Goes on with the line that begins there, up to that place.
-fn put_ground(out: &mut Text, begin: usize, place: usize, bar: Option<u8>) {
-    for at in out.len().saturating_sub(begin)..place {
-        out.push(ground_at(at, bar));
+/// Writes letters over those of a line from that place on.
+fn write_over(line: &mut Vec<u8>, place: usize, letters: &[u8]) -> Result<(), AllocError> {
+    for (index, letter) in letters.iter().enumerate() {
+        match line.get_mut(place.saturating_add(index)) {
+            Some(old) => *old = *letter,
+            None => line.push(*letter)?,
+        }
     }
+    Ok(())
 }
 
-/// Goes on with the line that begins there, up to the last of so many lifelines, and ends it.
-fn put_rest(out: &mut Text, begin: usize, count: usize, bar: Option<u8>) {
-    let last = line_at(count.saturating_sub(1));
-    put_ground(out, begin, last.saturating_add(1), bar);
-    out.push(b'\n');
+/// Makes a line so long, with that mark.
+fn fill(line: &mut Vec<u8>, length: usize, mark: u8) -> Result<(), AllocError> {
+    for _ in line.len()..length {
+        line.push(mark)?;
+    }
+    Ok(())
 }
 
-/// Puts the line of a row, with its text beside the lifeline that stands there.
-fn put_beside(out: &mut Text, count: usize, row: &Row, lifeline: usize) {
-    let begin = out.len();
-    out.put_number(b"", row.step);
-    put_ground(out, begin, lifeline.saturating_add(2), None);
-    out.put(&row.text);
-    put_rest(out, begin, count, None);
+/// The lifelines at the row that is shown as that one.
+fn lifelines_at(page: Page<'_>, at: usize) -> Result<Vec<u8>, AllocError> {
+    let mut line = Vec::new(page.alloc);
+    let layout = page.layout;
+    fill(&mut line, page.line_at(layout.columns), b' ')?;
+    for lifeline in &layout.lifelines {
+        if (lifeline.first < at || lifeline.thread == 0) && at <= lifeline.last {
+            write_over(&mut line, page.line_at(lifeline.column), b"|")?;
+        }
+    }
+    Ok(line)
 }
 
-/// Puts the lines of an arrow from one place to another: its message, and its shaft beneath.
-fn put_arrow(out: &mut Text, count: usize, row: &Row, (from, to): (usize, usize)) {
-    let left = from.min(to);
-    put_beside(out, count, row, left);
-    let begin = out.len();
-    put_ground(out, begin, left.saturating_add(1), None);
-    if from < to {
-        put_ground(out, begin, to.saturating_sub(1), Some(b'-'));
-        out.push(b'>');
+/// Puts a line, without the blanks at its end.
+fn put_line(out: &mut Vec<u8>, line: &[u8]) -> Result<(), AllocError> {
+    out.extend_from_slice(line.trim_ascii_end())?;
+    out.extend_from_slice(b"\n")
+}
+
+/// Writes a text over a line, and blanks where that ends before it; what is longer than its room is cut.
+fn write_text(
+    line: &mut Vec<u8>,
+    (place, room): (usize, usize),
+    mut text: Text,
+) -> Result<(), AllocError> {
+    text.cut(room);
+    let letters = text.finish()?;
+    fill(line, place, b' ')?;
+    write_over(line, place, &letters)
+}
+
+/// Writes the number of a row's step over a line.
+fn write_step(line: &mut Vec<u8>, page: Page<'_>, row: &Row) -> Result<(), AllocError> {
+    let mut number = Text::new(page.alloc);
+    number.put_number(b"", row.step);
+    write_text(line, (0, FIRST), number)
+}
+
+/// Puts the line of a row's text.
+fn put_text(out: &mut Vec<u8>, page: Page<'_>, row: &Row, at: usize) -> Result<(), AllocError> {
+    let mut line = lifelines_at(page, at)?;
+    write_step(&mut line, page, row)?;
+    let text = label(page.alloc, page.chart, row);
+    let place = page.text_at(row, text.len());
+    write_text(&mut line, place, text)?;
+    put_line(out, &line)
+}
+
+/// Puts the shaft of an arrow from one thread to another.
+fn put_shaft(
+    out: &mut Vec<u8>,
+    page: Page<'_>,
+    (from, to): (u32, u32),
+    at: usize,
+) -> Result<(), AllocError> {
+    let mut line = lifelines_at(page, at)?;
+    let (begin, end) = (page.lifeline_at(from), page.lifeline_at(to));
+    let left = begin.min(end);
+    for place in left.saturating_add(1)..begin.max(end) {
+        write_over(&mut line, place, b"-")?;
+    }
+    if begin < end {
+        write_over(&mut line, end.saturating_sub(1), b">")?;
     } else {
-        out.push(b'<');
-        put_ground(out, begin, from, Some(b'-'));
+        write_over(&mut line, left.saturating_add(1), b"<")?;
     }
-    put_rest(out, begin, count, None);
+    put_line(out, &line)
 }
 
-/// Puts the line of a bar, made of that mark.
-fn put_bar(out: &mut Text, count: usize, row: &Row, mark: u8) {
-    let begin = out.len();
-    out.put_number(b"", row.step);
-    put_ground(out, begin, FIRST + 3, Some(mark));
-    out.push(b' ');
-    out.put(&row.text);
-    out.push(b' ');
-    put_rest(out, begin, count, Some(mark));
+/// Puts the line of what is so for the whole run, made of that mark.
+fn put_bar(out: &mut Vec<u8>, page: Page<'_>, row: &Row, mark: u8) -> Result<(), AllocError> {
+    let mut line = Vec::new(page.alloc);
+    fill(&mut line, FIRST, b' ')?;
+    let layout = page.layout;
+    fill(
+        &mut line,
+        page.line_at(layout.columns.saturating_sub(1))
+            .saturating_add(1),
+        mark,
+    )?;
+    write_step(&mut line, page, row)?;
+    let mut text = Text::new(page.alloc);
+    text.push(b' ');
+    text.put_text(&label(page.alloc, page.chart, row));
+    text.push(b' ');
+    let place = page.text_at(row, text.len());
+    write_text(&mut line, place, text)?;
+    put_line(out, &line)
 }
 
-/// Puts the lines of a row.
-fn put_row(out: &mut Text, columns: &[u32], row: &Row) {
-    let count = columns.len();
+/// Puts the lines of the row that is shown as that one.
+fn put_row(out: &mut Vec<u8>, page: Page<'_>, row: &Row, at: usize) -> Result<(), AllocError> {
     match row.shape {
+        Shape::Begin(_) | Shape::Note(_) => put_text(out, page, row, at),
         Shape::Arrow(from, to) => {
-            let begin = line_at(place_of(columns, from));
-            let end = line_at(place_of(columns, to));
-            put_arrow(out, count, row, (begin, end));
+            put_text(out, page, row, at)?;
+            put_shaft(out, page, (from, to), at)
         }
-        Shape::Note(column) => put_beside(out, count, row, line_at(place_of(columns, column))),
-        Shape::Bar => put_bar(out, count, row, b'-'),
-        Shape::Violation => put_bar(out, count, row, b'='),
+        Shape::Bar => put_bar(out, page, row, b'-'),
+        Shape::Violation(_) => put_bar(out, page, row, b'='),
     }
 }
 
-/// Puts the headings of the line that begins there.
-fn put_headings(out: &mut Text, begin: usize, chart: &Chart, columns: &[u32]) {
-    for (place, column) in columns.iter().enumerate() {
-        put_ground(out, begin, line_at(place), Some(b' '));
-        put_heading(out, chart, *column);
-    }
+/// Puts the line above all rows.
+fn put_top(out: &mut Vec<u8>, page: Page<'_>) -> Result<(), AllocError> {
+    let mut line = Vec::new(page.alloc);
+    write_over(&mut line, 0, b"step")?;
+    let text = heading(page.alloc, page.chart, 0);
+    write_text(&mut line, (page.lifeline_at(0), WIDEST), text)?;
+    put_line(out, &line)
 }
 
 /// Puts the lines of all rows.
-fn put_rows(out: &mut Text, chart: &Chart, columns: &[u32]) {
-    for row in &chart.rows {
-        put_row(out, columns, row);
+fn put_rows(out: &mut Vec<u8>, page: Page<'_>) -> Result<(), AllocError> {
+    let (chart, layout) = (page.chart, page.layout);
+    for (at, index) in layout.rows.iter().enumerate() {
+        if let Some(row) = chart.rows.get(*index) {
+            put_row(out, page, row, at)?;
+        }
     }
+    Ok(())
+}
+
+/// Puts what a word stands for, on lines of that width: those behind the first are indented.
+fn put_wrapped(
+    out: &mut Vec<u8>,
+    page: Page<'_>,
+    mut word: Text,
+    text: &[u8],
+) -> Result<(), AllocError> {
+    let indent = word.len();
+    let room = page.width.saturating_sub(indent).max(NARROWEST);
+    for part in text.chunks(room) {
+        word.put(part);
+        let line = word.finish()?;
+        put_line(out, &line)?;
+        word = Text::new(page.alloc);
+        word.put_blanks(indent);
+    }
+    Ok(())
 }
 
 /// Puts what the abbreviations stand for.
-fn put_legend(out: &mut Text, chart: &Chart) {
-    for (index, text) in chart.legend.iter().enumerate() {
-        out.put_number(b"M", index as u64 + 1);
-        out.put(b" = ");
-        out.put(text);
-        out.push(b'\n');
+fn put_legend(out: &mut Vec<u8>, page: Page<'_>) -> Result<(), AllocError> {
+    let chart = page.chart;
+    for (index, text) in chart.legend.texts.iter().enumerate() {
+        let mut word = Text::new(page.alloc);
+        word.put_number(b"M", index as u64 + 1);
+        word.put(b" = ");
+        put_wrapped(out, page, word, text)?;
     }
+    Ok(())
 }
 
-/// Puts all lines of a chart with these columns.
-fn put_lines(out: &mut Text, chart: &Chart, columns: &[u32]) {
-    let begin = out.len();
-    out.put(b"step");
-    put_headings(out, begin, chart, columns);
-    out.push(b'\n');
-    put_rows(out, chart, columns);
-    if !chart.legend.is_empty() {
-        out.push(b'\n');
+/// Puts the whole text of a row that is cut.
+fn put_whole(out: &mut Vec<u8>, page: Page<'_>, row: &Row) -> Result<(), AllocError> {
+    let text = label(page.alloc, page.chart, row);
+    let (_, room) = page.text_at(row, text.len());
+    if text.len() <= room {
+        return Ok(());
     }
-    put_legend(out, chart);
+    let mut word = Text::new(page.alloc);
+    word.put_number(b"step ", row.step);
+    word.put(b": ");
+    let letters = text.finish()?;
+    put_wrapped(out, page, word, &letters)
 }
 
-/// Puts a chart as text: a column of letters for each thread and for the attacker, and beneath it what the abbreviations stand
-/// for.
-pub fn put_chart(out: &mut Vec<u8>, alloc: Global, chart: &Chart) -> Result<(), AllocError> {
-    let columns = columns(alloc, chart)?;
-    let mut whole = Text::new(alloc);
-    put_lines(&mut whole, chart, &columns);
-    whole.append_to(out)
+/// Puts the whole texts of the rows that are cut.
+fn put_cut(out: &mut Vec<u8>, page: Page<'_>) -> Result<(), AllocError> {
+    let (chart, layout) = (page.chart, page.layout);
+    for index in &layout.rows {
+        if let Some(row) = chart.rows.get(*index) {
+            put_whole(out, page, row)?;
+        }
+    }
+    Ok(())
+}
+
+/// Puts what stands beneath a chart, behind an empty line.
+fn put_beneath(out: &mut Vec<u8>, page: Page<'_>) -> Result<(), AllocError> {
+    let mut beneath = Vec::new(page.alloc);
+    put_legend(&mut beneath, page)?;
+    put_cut(&mut beneath, page)?;
+    if !beneath.is_empty() {
+        out.push(b'\n')?;
+    }
+    out.extend_from_slice(&beneath)
+}
+
+/// Puts a chart as text of lines of that width, where the columns have room: a column of letters for each thread and for the
+/// attacker, and beneath it what the abbreviations stand for, and the whole of what is cut.
+pub fn put_chart(
+    out: &mut Vec<u8>,
+    alloc: Global,
+    chart: &Chart,
+    width: usize,
+) -> Result<(), AllocError> {
+    let layout = lay_out(alloc, chart, width / OWN)?;
+    let page = Page {
+        alloc,
+        chart,
+        layout: &layout,
+        width,
+        column: column_width(width, layout.columns),
+    };
+    put_top(out, page)?;
+    put_rows(out, page)?;
+    put_beneath(out, page)
 }

@@ -38,6 +38,14 @@ impl Text {
         }
     }
 
+    /// Puts the bytes of another text.
+    pub(crate) fn put_text(&mut self, other: &Text) {
+        self.put(&other.bytes);
+        if other.lacks_memory {
+            self.lacks_memory = true;
+        }
+    }
+
     /// Puts these bytes, and a number behind them in decimal.
     pub(crate) fn put_number(&mut self, bytes: &[u8], number: u64) {
         self.put(bytes);
@@ -51,6 +59,27 @@ impl Text {
         if self.bytes.len() > most {
             self.bytes.truncate(most);
             self.put(b"..");
+        }
+    }
+
+    /// Keeps so many bytes, of which the last are two dots where it is longer.
+    pub(crate) fn cut(&mut self, room: usize) {
+        if self.bytes.len() > room {
+            self.shorten(room.saturating_sub(2));
+        }
+    }
+
+    /// Puts so many blanks.
+    pub(crate) fn put_blanks(&mut self, count: usize) {
+        for _ in 0..count {
+            self.push(b' ');
+        }
+    }
+
+    /// Puts a blank, where one is wanted.
+    pub(crate) fn put_gap(&mut self, is_wanted: bool) {
+        if is_wanted {
+            self.push(b' ');
         }
     }
 
