@@ -1,6 +1,8 @@
 pub mod Readable
 pub mod Attacks
 pub mod AttackText
+pub mod CertificateText
+pub mod Pages
 pub mod Reached
 pub mod Explained
 pub mod Status

@@ -13,6 +13,7 @@ refused_status (refused.Run line code) = 4
 abbrev pub HasStatus : Outcome → ℕ → Type 0
 HasStatus ends.Shown status = status ≡ 0
 HasStatus ends.NotFound status = status ≡ 1
+HasStatus ends.Warned status = status ≡ 1
 HasStatus (ends.NoQuery number) status = status ≡ 1
 HasStatus (ends.Stuck number error) status = status ≡ 1
 HasStatus ends.LongRun status = status ≡ 1

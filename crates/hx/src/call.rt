@@ -13,7 +13,7 @@ use std::alloc::{AllocError, Global};
 
 /// What is written for words that are no command.
 const USAGE: &[u8] =
-    b"usage: points FILE | log FILE QUERY [--budget N] | warn FILE | draw FILE RUN [--svg] | why FILE QUERY [--budget N] | attack FILE QUERY [--budget N] | reach FILE [--budget N] [--runs]\n";
+    b"usage: points FILE | log FILE QUERY [--budget N] | warn FILE [--strict] | draw FILE RUN [--svg | --width N] | draw FILE --attack QUERY [--svg | --width N] [--budget N] | why FILE QUERY [--budget N] | attack FILE QUERY [--budget N] | reach FILE [--budget N] [--runs] | certify FILE QUERY [--budget N] [--format F]\n";
 
 /// What is written for a run with more steps than are drawn.
 const LONG_RUN: &[u8] = b"long run: 2000 steps are drawn at most\n";
@@ -40,7 +40,7 @@ fn put_refusal(out: &mut Vec<u8>, refusal: Refusal) -> Result<(), AllocError> {
 /// Puts the text of an outcome that shows nothing.
 fn put_outcome(out: &mut Vec<u8>, outcome: Outcome) -> Result<(), AllocError> {
     match outcome {
-        Outcome::Shown | Outcome::NotFound => Ok(()),
+        Outcome::Shown | Outcome::NotFound | Outcome::Warned => Ok(()),
         Outcome::NoQuery(query) => put_numbered(out, "no query ", u64::from(query), "\n"),
         Outcome::Stuck(number, error) => put_words(out, format_args!("stuck {number}: {error}\n")),
         Outcome::LongRun => out.extend_from_slice(LONG_RUN),

@@ -1,5 +1,6 @@
 //! The program's commands.
 
+use certificate_search::DEFAULT_BUDGET as SEARCH_BUDGET;
 use pi_tree::{MOST_BUDGET, MOST_QUERIES};
 
 /// The words of the commands.
@@ -17,10 +18,20 @@ const ATTACK: &str = "attack";
 
 const REACH: &str = "reach";
 
+const CERTIFY: &str = "certify";
+
 /// The options, which stand behind all other words of a command.
 const BUDGET: &str = "--budget";
 
 const SVG: &str = "--svg";
+
+const FORMAT: &str = "--format";
+
+const STRICT: &str = "--strict";
+
+const WIDTH: &str = "--width";
+
+const OF_ATTACK: &str = "--attack";
 
 const RUNS: &str = "--runs";
 
@@ -29,6 +40,13 @@ const DEFAULT_BUDGET: u32 = 1_000;
 
 /// The budget with which it is asked whether something can happen, where none is given.
 const REACH_BUDGET: u32 = 500;
+
+/// How wide the lines of a chart are, in letters: where nothing is told, at least and at most.
+const DEFAULT_WIDTH: u32 = 120;
+
+const LEAST_WIDTH: u32 = 40;
+
+const MOST_WIDTH: u64 = 1_000;
 
 /// A query of which the log is asked for, and with which budget.
 #[derive(Clone, Copy)]
@@ -39,6 +57,38 @@ pub struct LogOf {
     pub budget: u32,
 }
 
+/// The format of certificates where none is named.
+const DEFAULT_FORMAT: u8 = 2;
+
+/// A query of which a certificate is looked for.
+#[derive(Clone, Copy)]
+pub struct CertificateOf {
+    /// The number of the query, from 1 to the limit of queries.
+    pub query: u32,
+    /// How many clauses a plan of the search may keep, from 0 to the limit of budgets.
+    pub budget: u32,
+    /// The format in which the certificate is written, 1 or 2.
+    pub format: u8,
+}
+
+/// The run that is to be drawn.
+#[derive(Clone, Copy)]
+pub enum RunOf<'a> {
+    /// That of the file with this name.
+    File(&'a str),
+    /// That of an attack.
+    Attack(LogOf),
+}
+
+/// How a run is to be drawn.
+#[derive(Clone, Copy)]
+pub enum Look {
+    /// As text, on lines of so many letters.
+    Text(u32),
+    /// As SVG.
+    Svg,
+}
+
 /// What is to be shown of a protocol.
 #[derive(Clone, Copy)]
 pub enum Command<'a> {
@@ -46,14 +96,15 @@ pub enum Command<'a> {
     Points,
     /// `log FILE QUERY [--budget N]`: the log of a query.
     Log(LogOf),
-    /// `warn FILE`: what is odd about the protocol and its queries.
-    Warn,
-    /// `draw FILE RUN [--svg]`: a run as a chart.
+    /// `warn FILE [--strict]`: what is odd about the protocol and its queries.
+    Warn {
+        /// Whether the status tells that there is something.
+        is_strict: bool,
+    },
+    /// `draw FILE RUN [--svg | --width N]`, or `draw FILE --attack QUERY [--svg | --width N] [--budget N]`: a run as a chart.
     Draw {
-        /// The name of the run's file.
-        run: &'a str,
-        /// Whether it is drawn as SVG.
-        as_svg: bool,
+        run: RunOf<'a>,
+        look: Look,
     },
     /// `why FILE QUERY [--budget N]`: why the query isn't proved.
     Why(LogOf),
@@ -66,6 +117,8 @@ pub enum Command<'a> {
         /// Whether the runs are shown.
         with_runs: bool,
     },
+    /// `certify FILE QUERY [--budget N] [--format F]`: a report with a certificate of the query.
+    Certify(CertificateOf),
 }
 
 /// What the words of a command line ask for.
@@ -113,23 +166,93 @@ fn log_in(words: &[String]) -> Option<LogOf> {
     Some(LogOf { query, budget })
 }
 
-/// Whether the last words of a command ask for SVG.
-fn svg_in(words: &[String]) -> Option<bool> {
-    match words {
-        [] => Some(false),
-        [option] if option.as_str() == SVG => Some(true),
+/// What is asked for, with an option more.
+fn with_option(asked: CertificateOf, option: &str, value: &str) -> Option<CertificateOf> {
+    match option {
+        BUDGET => Some(CertificateOf {
+            budget: number_in(value, 0, MOST_BUDGET)?,
+            ..asked
+        }),
+        FORMAT => match value {
+            "1" => Some(CertificateOf { format: 1, ..asked }),
+            "2" => Some(CertificateOf { format: 2, ..asked }),
+            _ => None,
+        },
         _ => None,
     }
 }
 
-/// How the words behind the name of a file ask for a run to be drawn.
-fn draw_in(words: &[String]) -> Option<Command<'_>> {
-    let [run, options @ ..] = words else {
+/// Of which query the words behind the name of a file ask for a certificate, each option at most once.
+fn certify_in(words: &[String]) -> Option<CertificateOf> {
+    let [query, options @ ..] = words else {
         return None;
     };
-    let run = name_in(run.as_str())?;
-    let as_svg = svg_in(options)?;
-    Some(Command::Draw { run, as_svg })
+    let asked = CertificateOf {
+        query: number_in(query.as_str(), 1, MOST_QUERIES as u64)?,
+        budget: SEARCH_BUDGET,
+        format: DEFAULT_FORMAT,
+    };
+    match options {
+        [] => Some(asked),
+        [option, value] => with_option(asked, option.as_str(), value.as_str()),
+        [option, value, other, last] if option.as_str() != other.as_str() => {
+            let first = with_option(asked, option.as_str(), value.as_str())?;
+            with_option(first, other.as_str(), last.as_str())
+        }
+        _ => None,
+    }
+}
+
+/// Whether the last words of a command are this option; none where they are anything else.
+fn option_in(words: &[String], wanted: &str) -> Option<bool> {
+    match words {
+        [] => Some(false),
+        [option] if option.as_str() == wanted => Some(true),
+        _ => None,
+    }
+}
+
+/// How the last words of a command ask for a run to be drawn.
+fn look_in(words: &[String]) -> Option<Look> {
+    match words {
+        [] => Some(Look::Text(DEFAULT_WIDTH)),
+        [option] if option.as_str() == SVG => Some(Look::Svg),
+        [option, width] if option.as_str() == WIDTH => Some(Look::Text(number_in(
+            width.as_str(),
+            LEAST_WIDTH,
+            MOST_WIDTH,
+        )?)),
+        _ => None,
+    }
+}
+
+/// How the words behind the number of a query ask for the run of an attack to be drawn.
+fn draw_attack_in<'a>(query: &str, words: &[String]) -> Option<Command<'a>> {
+    let (others, budget) = match words {
+        [others @ .., option, budget] if option.as_str() == BUDGET => {
+            (others, number_in(budget.as_str(), 0, MOST_BUDGET)?)
+        }
+        _ => (words, DEFAULT_BUDGET),
+    };
+    let query = number_in(query, 1, MOST_QUERIES as u64)?;
+    let look = look_in(others)?;
+    let run = RunOf::Attack(LogOf { query, budget });
+    Some(Command::Draw { run, look })
+}
+
+/// How the words behind the name of a file ask for a run to be drawn.
+fn draw_in(words: &[String]) -> Option<Command<'_>> {
+    match words {
+        [option, query, others @ ..] if option.as_str() == OF_ATTACK => {
+            draw_attack_in(query.as_str(), others)
+        }
+        [run, options @ ..] => {
+            let run = RunOf::File(name_in(run.as_str())?);
+            let look = look_in(options)?;
+            Some(Command::Draw { run, look })
+        }
+        [] => None,
+    }
 }
 
 /// How the words behind the name of a file ask what can happen.
@@ -156,11 +279,14 @@ fn command_in<'a>(word: &str, words: &'a [String]) -> Option<Command<'a>> {
     match word {
         POINTS => alone(Command::Points, words),
         LOG => Some(Command::Log(log_in(words)?)),
-        WARN => alone(Command::Warn, words),
+        WARN => Some(Command::Warn {
+            is_strict: option_in(words, STRICT)?,
+        }),
         DRAW => draw_in(words),
         WHY => Some(Command::Why(log_in(words)?)),
         ATTACK => Some(Command::Attack(log_in(words)?)),
         REACH => reach_in(words),
+        CERTIFY => Some(Command::Certify(certify_in(words)?)),
         _ => None,
     }
 }

@@ -146,7 +146,7 @@ fn part_end(from: usize, count: usize) -> usize
 }
 
 /// Which of these subjects never happen, as far as it is proved.
-fn never_among(
+pub(crate) fn never_among(
     alloc: Global,
     protocol: &Protocol,
     subjects: &[Subject],

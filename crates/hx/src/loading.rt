@@ -1,6 +1,7 @@
 //! Loading files, and reading the protocol and the run that they spell.
 
 ghost use Rattle.std.specs.Prelude.{IfOk};
+ghost use Rattle.spec_protocol_scope.specs.Spells.{Spells};
 ghost use Rattle.pi_tree.specs.Protocols.{protocol_of};
 ghost use Rattle.hx.specs.Readable.{IsReadable};
 
@@ -25,7 +26,8 @@ pub(crate) struct Reading {
 
 /// Reads the protocol that the bytes spell.
 pub(crate) fn read(alloc: Global, bytes: &[u8]) -> Result<Reading, Unread>
-    ensures { IfOk result (λ read. IsReadable (protocol_of read.protocol)) }
+    ensures spelled { IfOk result (λ read. Spells bytes.now (protocol_of read.protocol)) }
+    ensures readable { IfOk result (λ read. IsReadable (protocol_of read.protocol)) }
 {
     within_limits();
     proper_rules();

@@ -4,6 +4,7 @@
 mod attack_text;
 mod attacking;
 mod call;
+mod certifying;
 mod commands;
 mod ending;
 mod impossible;
@@ -16,6 +17,7 @@ mod reason;
 mod refusing;
 mod showing;
 mod stopping;
+mod testing;
 
 use call::show;
 use ending::Ending;

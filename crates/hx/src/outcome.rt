@@ -30,6 +30,8 @@ pub enum Outcome {
     Shown,
     /// What was found is shown, and not all that was looked for was found.
     NotFound,
+    /// What looks like a mistake is shown, and that is to be told by the status.
+    Warned,
     /// The protocol has no query of this number.
     NoQuery(u32),
     /// The step of this number of the run, from 1, is refused, so nothing is drawn.
@@ -50,6 +52,13 @@ impl From<AllocError> for Outcome {
     }
 }
 
+/// What is shown, and what that comes to.
+#[derive(Drop)]
+pub struct Output {
+    pub outcome: Outcome,
+    pub text: Vec<u8>,
+}
+
 /// What a call ends with: the outcome, and the program's exit status.
 #[derive(Clone, Copy)]
 pub struct Answer {
@@ -63,7 +72,11 @@ pub fn status(outcome: Outcome) -> u8
 {
     match outcome {
         Outcome::Shown => 0,
-        Outcome::NotFound | Outcome::NoQuery(_) | Outcome::Stuck(_, _) | Outcome::LongRun => 1,
+        Outcome::NotFound
+        | Outcome::Warned
+        | Outcome::NoQuery(_)
+        | Outcome::Stuck(_, _)
+        | Outcome::LongRun => 1,
         Outcome::Usage => 2,
         Outcome::Refused(Refusal::Protocol { .. }) => 3,
         Outcome::Refused(Refusal::Run { .. }) => 4,

@@ -18,7 +18,7 @@ use clause_sources::Sources;
 use hv_io::put_words;
 use log_entries::PlainLog;
 use log_text::{
-    LogEnd, QueryLog, Setting, Stopped, Told, entry_derivation, put_derivation, put_stop,
+    LogEnd, QueryLog, Setting, Stopped, Told, entry_derivation, put_derivation, put_goals, put_stop,
 };
 use std::alloc::AllocError;
 use term_store::SharedBank;
@@ -115,6 +115,16 @@ fn attack_steps(unmet: Unmet<'_>) -> Result<Option<usize>, AllocError>
     }
 }
 
+/// Puts which command looks for an attack.
+fn put_pointer(out: &mut Vec<u8>, query: u32) -> Result<(), AllocError> {
+    put_numbered(
+        out,
+        "`./hv show attack FILE ",
+        u64::from(query),
+        "` looks for one\n",
+    )
+}
+
 /// Puts an entry that doesn't satisfy the query, its derivation, and where it tells no attack what was forgotten.
 fn put_unmet(out: &mut Vec<u8>, unmet: Unmet<'_>) -> Result<(), AllocError>
     requires { CanExplain unmet }
@@ -124,12 +134,42 @@ fn put_unmet(out: &mut Vec<u8>, unmet: Unmet<'_>) -> Result<(), AllocError>
         put_numbered(out, "tells an attack of ", steps as u64, " steps\n")?;
         return put_tree(out, unmet);
     }
-    out.extend_from_slice(b"isn't satisfied, and no attack is compiled of it; see `attack`\n")?;
+    out.extend_from_slice(b"isn't satisfied, and no attack is compiled of it; ")?;
+    put_pointer(out, unmet.query)?;
     put_tree(out, unmet)?;
     let mut bank = SharedBank::new(unmet.setting.alloc)?;
     let put = put_forgotten(out, unmet, &mut bank);
     drop(bank);
     put
+}
+
+/// Puts what the end of a log says of the query, where no entry doesn't satisfy it.
+fn put_end(out: &mut Vec<u8>, end: &LogEnd) -> Result<(), AllocError> {
+    match end {
+        LogEnd::Closed => out.extend_from_slice(b"proved\n"),
+        LogEnd::Spent(_) => {
+            out.extend_from_slice(b"the budget is spent before the log closes; see `log`\n")
+        }
+        LogEnd::Large(solved, unsolved) => put_words(
+            out,
+            format_args!(
+                "entry {solved} into {unsolved} is too large, so the log doesn't close; see `log`\n"
+            ),
+        ),
+    }
+}
+
+/// Puts what is derived of the goal of a query whose log doesn't close.
+fn put_derived(
+    out: &mut Vec<u8>,
+    setting: Setting<'_>,
+    query: u32,
+    sources: &Sources,
+    told: &QueryLog,
+) -> Result<(), AllocError> {
+    put_goals(out, setting.alloc, setting.protocol, sources, told)?;
+    out.extend_from_slice(b"no attack is compiled of a log that isn't closed; ")?;
+    put_pointer(out, query)
 }
 
 /// Puts why a query isn't proved of which there is a log.
@@ -155,20 +195,34 @@ fn put_logged(
         };
         return put_unmet(out, unmet);
     }
+    put_end(out, &told.end)?;
     match &told.end {
-        LogEnd::Closed => out.extend_from_slice(b"proved\n"),
-        LogEnd::Spent(_) => {
-            out.extend_from_slice(
-                b"the budget is spent before the log closes; see `log`, `attack`\n",
-            )
-        }
-        LogEnd::Large(solved, unsolved) => put_words(
-            out,
-            format_args!(
-                "entry {solved} into {unsolved} is too large, so the log doesn't close; see `log`, `attack`\n"
-            ),
-        ),
+        LogEnd::Closed => Ok(()),
+        LogEnd::Spent(_) | LogEnd::Large(_, _) => put_derived(out, setting, query, sources, told),
     }
+}
+
+/// What the names of the attacker look like in a clause.
+const ATTACKERS_NAME: &[u8] = b"@[";
+
+/// Whether a text shows a name of the attacker.
+fn shows_name(text: &[u8]) -> bool {
+    for from in 0..text.len() {
+        if text[from..].starts_with(ATTACKERS_NAME) {
+            return true;
+        }
+    }
+    false
+}
+
+/// Puts what a name of the attacker is, where the text shows one.
+fn put_legend(out: &mut Vec<u8>) -> Result<(), AllocError> {
+    if shows_name(out.as_slice()) {
+        out.extend_from_slice(
+            b"@[..] is a name that the attacker makes, and with other brackets another one\n",
+        )?;
+    }
+    Ok(())
 }
 
 /// Puts why the query of that number isn't proved: by its log, with the derivation of the first entry that doesn't satisfy it, and
@@ -191,7 +245,8 @@ pub(crate) fn put_reason(
             "the visit of point ",
             u64::from(*point),
             " is too large, so there is no log\n",
-        ),
-        Told::Logged(log) => put_logged(out, setting, query, sources, log),
+        )?,
+        Told::Logged(log) => put_logged(out, setting, query, sources, log)?,
     }
+    put_legend(out)
 }
