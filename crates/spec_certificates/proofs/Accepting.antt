@@ -1,6 +1,6 @@
--- What an accepted certificate shows: its clauses close the translation, and those that conclude `bad` are satisfied.
-use Rattle.std.proofs.Common.{◌≡◌, ℕ, zero, suc, ◌+◌, ◌&&◌, Some, None, List, [], ◌∷◌, map, refl, sym, subst, inl, inr}
-use Rattle.std.specs.Prelude.{slice_get}
+-- What an accepted certificate shows: its clauses close the translation, and those that rest and conclude `bad` are satisfied.
+use Rattle.std.proofs.Common.{◌≡◌, ℕ, zero, suc, ◌+◌, true, ◌&&◌, Some, None, List, [], ◌∷◌, map, refl, sym, subst, inl, inr}
+use Rattle.std.specs.Prelude.{Option, slice_get}
 use Rattle.std.specs.List.{list_all, AllByRecursion}
 use Rattle.spec_trees.proofs.Equality.{and_true}
 use Rattle.spec_calculus.specs.Syntax.{EventTerm, Query, Secret, SecretNew, Correspondence, Protocol}
@@ -8,7 +8,7 @@ use Rattle.spec_calculus.specs.Points.{numbered}
 use Rattle.spec_terms.specs.Term.{Term, Subst}
 use Rattle.spec_clauses.specs.Fact.{Fact, Clause, fact_under}
 use Rattle.spec_clauses.specs.Flat.{is_flat}
-use Rattle.spec_clauses.specs.Selection.{Selection, select, is_solved}
+use Rattle.spec_clauses.specs.Selection.{Selection}
 use Rattle.spec_clauses.specs.Norm.{IsNormal}
 use Rattle.spec_clauses.specs.Resolvents.{Answer, NoUnifier, Large, Resolvents, Resolves}
 use Rattle.spec_clauses.specs.Inclusion.{Picks, here, there, Has}
@@ -17,12 +17,15 @@ use Rattle.spec_clauses.proofs.Inclusion.{Has-append_left, Has-append_right, Has
 use Rattle.spec_clauses.proofs.Selection.{select-none}
 use Rattle.spec_clauses.proofs.Subsumption.{row_subsumes}
 use Rattle.spec_derivations.specs.Closed.{IsPairClosed, Closes}
+use Rattle.spec_derivations.proofs.Choosing.{closed_by_selection}
 use Rattle.spec_derivations.proofs.Closing.{none_closes, resolvents_close}
 use Rattle.spec_translation.specs.Goal.{required}
 use Rattle.spec_translation.specs.Satisfied.{is_bad, IsSatisfied, AreSatisfied}
+use Rattle.spec_translation.specs.Translation.{Clauses, IsTranslation}
 use Rattle.spec_certificates.specs.Shown.{IsShown}
-use Rattle.spec_certificates.specs.Certificate.{Certificate, IsInShape, CoverRowHolds, GoalHolds, Numbered, numbered_from, Pair, pairs_with, pairs_of_solved, pairs_of}
-use Rattle.spec_certificates.specs.Ruling.{Ruling, Accepted, Shape, Cover, Closure, Goal, Rest, Or, Shapes, Covers, Answered, Closures, Goals, NoneLeft, bad_ones, Obliged, IsRuled}
+use Rattle.spec_certificates.specs.Certificate.{Certificate, IsInShape, CoverRowHolds, GoalHolds, Numbered, numbered_from, Choice, by_selection, Pair, pairs_with, pairs_of_resting, pairs_by}
+use Rattle.spec_certificates.specs.Ruling.{Ruling, Accepted, Shape, Cover, Closure, Goal, Rest, Or, Each, Covers, Answered, Closures, Goals, NoneLeft, resting_bad, ObligedBy, Obliged, IsRuled}
+use Rattle.spec_certificates.proofs.Selected.{shown_by_selection}
 
 -- a failure that is no acceptance
 abbrev NoAcceptance : Ruling → Type 0
@@ -66,12 +69,12 @@ all_numbered P cs n all c h = of_pick n h.1 all where
   of_pick n here all = all.0
   of_pick n (there p) all = of_pick (n + 1) p all.1
 
--- shapes
-shapes_accepted : (q : Query) (cs : List Numbered) (R : Ruling → Type 0) → Shapes q cs R Accepted → AllByRecursion (λ c. IsInShape q c.clause) cs × R Accepted
-shapes_accepted q [] R x = (tt, x)
-shapes_accepted q (c ∷ cs) R x =
-    let both = accepted_or (IsInShape q c.clause) (Shapes q cs R Accepted) (Shape c.number) (λ e. cc) x in
-    let more = shapes_accepted q cs R both.1 in ((both.0, more.0), more.1)
+-- shapes, and numbers
+pub each_accepted : (IsSo : Numbered → Type 0) (cs : List Numbered) (R : Ruling → Type 0) → Each IsSo cs R Accepted → AllByRecursion IsSo cs × R Accepted
+each_accepted IsSo [] R x = (tt, x)
+each_accepted IsSo (c ∷ cs) R x =
+    let both = accepted_or (IsSo c) (Each IsSo cs R Accepted) (Shape c.number) (λ e. cc) x in
+    let more = each_accepted IsSo cs R both.1 in ((both.0, more.0), more.1)
 
 module _ (clauses : List (Clause Term)) (normal : (c : Clause Term) → Has clauses c → IsNormal c) where
   -- a row that holds shows that the clause is covered
@@ -105,17 +108,18 @@ module _ (clauses : List (Clause Term)) (normal : (c : Clause Term) → Has clau
       let more = closures_accepted ps R first.1.0 first.1.1 in
       ((first.0, more.0), more.1)
 
--- the pair of a solved clause and an unsolved one is among all pairs
-pub pair_listed : (all : List Numbered) (is : List Numbered) (i j : Numbered) (at : Selection) → Has is i → Has all j → select i.clause.hypotheses ≡ None → select j.clause.hypotheses ≡ Some at → Has (pairs_of is all) (record { solved = i; unsolved = j; at = at })
-pair_listed all is i j at hi hj none some = of_pick hi.1 none where
-  with_one : (i : Numbered) → select i.clause.hypotheses ≡ None → Has (pairs_of_solved (select i.clause.hypotheses) i all) (record { solved = i; unsolved = j; at = at })
-  with_one i none =
-      let one : Has (pairs_with i (select j.clause.hypotheses) j) (record { solved = i; unsolved = j; at = at }) = rw some ([], here) in
-      rw none (Has-flat_map (λ k. pairs_with i (select k.clause.hypotheses) k) all j (record { solved = i; unsolved = j; at = at }) hj one)
+-- the pair of a clause that rests and one with a chosen hypothesis is among all pairs
+module _ (chosen : Numbered → Option Selection) where
+  pub pair_listed : (all : List Numbered) (is : List Numbered) (i j : Numbered) (at : Selection) → Has is i → Has all j → chosen i ≡ None → chosen j ≡ Some at → Has (pairs_by chosen is all) (record { solved = i; unsolved = j; at = at })
+  pair_listed all is i j at hi hj none some = of_pick hi.1 none where
+    with_one : (i : Numbered) → chosen i ≡ None → Has (pairs_of_resting chosen (chosen i) i all) (record { solved = i; unsolved = j; at = at })
+    with_one i none =
+        let one : Has (pairs_with i (chosen j) j) (record { solved = i; unsolved = j; at = at }) = rw some ([], here) in
+        rw none (Has-flat_map (λ k. pairs_with i (chosen k) k) all j (record { solved = i; unsolved = j; at = at }) hj one)
 
-  of_pick : {ks rest : List Numbered} {k : Numbered} → Picks ks k rest → select k.clause.hypotheses ≡ None → Has (pairs_of ks all) (record { solved = k; unsolved = j; at = at })
-  of_pick (here {x = k} {xs = ks}) none = Has-append_left (pairs_of_solved (select k.clause.hypotheses) k all) (pairs_of ks all) (record { solved = k; unsolved = j; at = at }) (with_one k none)
-  of_pick (there {x = k} {y = l} {xs = ks} p) none = Has-append_right (pairs_of_solved (select l.clause.hypotheses) l all) (pairs_of ks all) (record { solved = k; unsolved = j; at = at }) (of_pick p none)
+    of_pick : {ks rest : List Numbered} {k : Numbered} → Picks ks k rest → chosen k ≡ None → Has (pairs_by chosen ks all) (record { solved = k; unsolved = j; at = at })
+    of_pick (here {x = k} {xs = ks}) none = Has-append_left (pairs_of_resting chosen (chosen k) k all) (pairs_by chosen ks all) (record { solved = k; unsolved = j; at = at }) (with_one k none)
+    of_pick (there {x = k} {y = l} {xs = ks} p) none = Has-append_right (pairs_of_resting chosen (chosen l) l all) (pairs_by chosen ks all) (record { solved = k; unsolved = j; at = at }) (of_pick p none)
 
 -- goal rows
 required_listed : (P : Protocol) (by : Subst) (hs : List (Fact Term)) (events : List EventTerm) (row : List ℕ) → map (λ e. Some (fact_under by (required P e))) events ≡ map (hypothesis_at hs) row → AllByRecursion (λ e. Has hs (fact_under by (required P e))) events
@@ -149,44 +153,63 @@ goals_accepted P q (c ∷ cs) R (row ∷ rows) x =
     let both = accepted_or (GoalHolds P q row c.clause) (Goals P q cs R rows Accepted) (Goal c.number) (λ e. cc) x in
     (goal_satisfies P q row c.clause both.0, goals_accepted P q cs R rows both.1)
 
--- A list of clauses in shape whose rows cover the given ones and what its pairs give closes them, and its clauses are satisfied.
 module _ (P : Protocol) (q : Query) (cert : Certificate) where
-  -- the rows behind those of the given clauses
-  abbrev Behind : Rest
-  Behind = let all = numbered_from 1 cert.clauses in
-      Closures cert.clauses (pairs_of all all) (λ rows. Goals P q (bad_ones all) (λ goals. NoneLeft cert rows goals) cert.goals)
+  abbrev pub AllNumbered : List Numbered
+  AllNumbered = numbered_from 1 cert.clauses
 
-  pub covers_close : (given : List (Clause Term)) → AllByRecursion (λ c. IsInShape q c.clause) (numbered_from 1 cert.clauses) → Covers cert.clauses Cover (numbered_from 1 given) Behind cert.rows Accepted → Closes given cert.clauses × AreSatisfied P q cert.clauses
-  covers_close given shapes x =
-      let all = numbered_from 1 cert.clauses in
-      let normal = all_numbered IsNormal cert.clauses 1 (normals q all shapes) in
-      let covered = covers_accepted cert.clauses normal Cover (λ k e. cc) (numbered_from 1 given) Behind cert.rows x in
-      let closed = closures_accepted cert.clauses normal (pairs_of all all) (λ rows. Goals P q (bad_ones all) (λ goals. NoneLeft cert rows goals) cert.goals) covered.1.0 covered.1.1 in
-      let goals = goals_accepted P q (bad_ones all) (λ goals. NoneLeft cert closed.1.0 goals) cert.goals closed.1.1 in (
+  -- Whatever is chosen, the rows of clauses in shape show that the given ones are covered and what the pairs give, and that clauses that
+  -- rest and conclude `bad` are satisfied.
+  pub record IsCoveredBy (choice : Choice) (given : List (Clause Term)) : Type 0 where
+    pub normal : (c : Clause Term) → Has cert.clauses c → IsNormal c
+    pub covers : (c : Clause Term) → Has given c → IsCovered cert.clauses c
+    pub closed : (i j : Numbered) (at : Selection) → Has AllNumbered i → Has AllNumbered j → choice.chosen i ≡ None → choice.chosen j ≡ Some at → IsPairClosed cert.clauses i.clause j.clause at
+    pub satisfied : (c : Numbered) → Has AllNumbered c → choice.rests c ≡ true → is_bad c.clause.conclusion ≡ true → IsSatisfied P q c.clause
+
+  module _ (choice : Choice) where
+    -- the rows behind those of the given clauses
+    abbrev BehindCovers : Rest
+    BehindCovers = Closures cert.clauses (pairs_by choice.chosen AllNumbered AllNumbered) (λ rows. Goals P q (resting_bad choice.rests AllNumbered) (λ goals. NoneLeft cert rows goals) cert.goals)
+
+    covers_show : (given : List (Clause Term)) → AllByRecursion (λ c. IsInShape q c.clause) AllNumbered → Covers cert.clauses Cover (numbered_from 1 given) BehindCovers cert.rows Accepted → IsCoveredBy choice given
+    covers_show given shapes x =
+        let normal = all_numbered IsNormal cert.clauses 1 (normals AllNumbered shapes) in
+        let covered = covers_accepted cert.clauses normal Cover (λ k e. cc) (numbered_from 1 given) BehindCovers cert.rows x in
+        let closed = closures_accepted cert.clauses normal (pairs_by choice.chosen AllNumbered AllNumbered) (λ rows. Goals P q (resting_bad choice.rests AllNumbered) (λ goals. NoneLeft cert rows goals) cert.goals) covered.1.0 covered.1.1 in
+        let goals = goals_accepted P q (resting_bad choice.rests AllNumbered) (λ goals. NoneLeft cert closed.1.0 goals) cert.goals closed.1.1 in
         record {
           normal = normal;
           covers = all_numbered (IsCovered cert.clauses) given 1 covered.0;
-          closed = λ i j at hi hj solved some.
-              let (k, ni) = has_numbered 1 cert.clauses i hi in
-              let (l, nj) = has_numbered 1 cert.clauses j hj in
-              all_of (λ p. IsPairClosed cert.clauses p.solved.clause p.unsolved.clause p.at) (pairs_of all all) (record { solved = record { number = k; clause = i }; unsolved = record { number = l; clause = j }; at = at }) closed.0
-              (pair_listed all all (record { number = k; clause = i }) (record { number = l; clause = j }) at ni nj ((select-none i.hypotheses).1 solved) some);
-        },
-        λ c hc solved bad.
-            let (k, nc) = has_numbered 1 cert.clauses c hc in
-            all_of (λ d. IsSatisfied P q d.clause) (bad_ones all) (record { number = k; clause = c }) goals
-            (Has-filter (λ d. is_solved d.clause.hypotheses && is_bad d.clause.conclusion) all (record { number = k; clause = c }) nc (rw solved (rw bad refl))),
-      )
-    where
-      normals : (q : Query) (cs : List Numbered) → AllByRecursion (λ c. IsInShape q c.clause) cs → AllByRecursion (λ c. IsNormal c.clause) cs
-      normals q [] a = tt
-      normals q (c ∷ cs) a = (a.0.normal, normals q cs a.1)
+          closed = λ i j at hi hj none some.
+              all_of (λ p. IsPairClosed cert.clauses p.solved.clause p.unsolved.clause p.at) (pairs_by choice.chosen AllNumbered AllNumbered) (record { solved = i; unsolved = j; at = at }) closed.0
+              (pair_listed choice.chosen AllNumbered AllNumbered i j at hi hj none some);
+          satisfied = λ c hc rests bad.
+              all_of (λ d. IsSatisfied P q d.clause) (resting_bad choice.rests AllNumbered) c goals
+              (Has-filter (λ d. choice.rests d && is_bad d.clause.conclusion) AllNumbered c hc (rw rests (rw bad refl)));
+        }
+      where
+        normals : (cs : List Numbered) → AllByRecursion (λ c. IsInShape q c.clause) cs → AllByRecursion (λ c. IsNormal c.clause) cs
+        normals [] a = tt
+        normals (c ∷ cs) a = (a.0.normal, normals cs a.1)
 
--- An accepted certificate shows the query.
-pub accepted_shows : (P : Protocol) (q : Query) (cert : Certificate) → IsRuled P q cert Accepted → (given : List (Clause Term)) × IsShown P q given cert.clauses
-accepted_shows P q cert x =
-    let (shapes, obliged) = shapes_accepted q (numbered_from 1 cert.clauses) (Obliged P q cert) x in go shapes obliged
-  where
-    go : AllByRecursion (λ c. IsInShape q c.clause) (numbered_from 1 cert.clauses) → Obliged P q cert Accepted → (given : List (Clause Term)) × IsShown P q given cert.clauses
-    go shapes (inl y) = cc
-    go shapes (inr y) = let both = covers_close P q cert y.0 shapes y.2 in (y.0, record { translation = y.1; closes = both.0; satisfied = both.1 })
+    -- where it is accepted, some translation is covered so
+    pub obliged_accepted : AllByRecursion (λ c. IsInShape q c.clause) AllNumbered → ObligedBy choice P q cert Accepted → (given : List (Clause Term)) × IsTranslation P q (Clauses given) × IsCoveredBy choice given
+    obliged_accepted shapes (inl y) = cc
+    obliged_accepted shapes (inr y) = (y.0, y.1, covers_show y.0 shapes y.2)
+
+  -- By selection they close the translation, and show the query.
+  selection_closes : (given : List (Clause Term)) → IsCoveredBy by_selection given → Closes given cert.clauses
+  selection_closes given shown = closed_by_selection given cert.clauses shown.normal shown.covers
+      (λ i j at hi hj solved some.
+      let (k, ni) = has_numbered 1 cert.clauses i hi in
+      let (l, nj) = has_numbered 1 cert.clauses j hj in
+      shown.closed (record { number = k; clause = i }) (record { number = l; clause = j }) at ni nj ((select-none i.hypotheses).1 solved) some)
+
+  selection_satisfies : (given : List (Clause Term)) → IsCoveredBy by_selection given → AreSatisfied P q cert.clauses
+  selection_satisfies given shown c hc solved bad = let (k, nc) = has_numbered 1 cert.clauses c hc in shown.satisfied (record { number = k; clause = c }) nc solved bad
+
+  -- An accepted certificate shows the query.
+  pub accepted_shows : IsRuled P q cert Accepted → (given : List (Clause Term)) × IsShown P q given cert.clauses
+  accepted_shows x =
+      let (shapes, obliged) = each_accepted (λ c. IsInShape q c.clause) AllNumbered (Obliged P q cert) x in
+      let (given, translated, shown) = obliged_accepted by_selection shapes obliged in
+      (given, shown_by_selection P q given cert.clauses translated (selection_closes given shown) (selection_satisfies given shown))

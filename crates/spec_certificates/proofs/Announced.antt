@@ -21,11 +21,13 @@ use Rattle.spec_clauses.specs.Subsumption.{IsCovered}
 use Rattle.spec_clauses.proofs.Inclusion.{all_has, Has-from_Contains, Has-append_left, Has-append_right, Has-one}
 use Rattle.spec_clauses.proofs.Subsumption.{subsumes_itself}
 use Rattle.spec_derivations.specs.Closed.{IsAnswered, IsPairClosed, Closes}
+use Rattle.spec_derivations.proofs.Choosing.{closed_by_selection}
 use Rattle.spec_derivations.proofs.Closing.{heard, heard_most}
 use Rattle.spec_translation.specs.Course.{Done}
 use Rattle.spec_translation.specs.Translation.{Clauses, IsTranslation}
 use Rattle.spec_translation.specs.Satisfied.{is_bad, IsMet, AreSatisfied}
 use Rattle.spec_certificates.specs.Shown.{IsProper, IsShown}
+use Rattle.spec_certificates.proofs.Selected.{shown_by_selection}
 use Rattle.spec_certificates.specs.Announcing.{begins, ends, announced, reversed, announcing, one_copy, performed_by, name, clause, process_clauses, eight_clauses, nine_clauses}
 
 -- what is said of the protocol and the query
@@ -278,11 +280,10 @@ all_closed = (
 )
 
 nine_close : Closes eight_clauses nine_clauses
-nine_close = record {
-  normal = λ c h. all_has IsNormal nine_clauses c all_normal h;
-  covers = λ c h. covers_itself c (Has-append_left eight_clauses (clause (Mev 1 (name ∷ []) ∷ []) (Bad (name ∷ [])) ∷ []) c h);
-  closed = λ i j at h k. all_has (IsClosedPair i) nine_clauses j (all_has (λ i. AllByRecursion (IsClosedPair i) nine_clauses) nine_clauses i all_closed h) k at;
-}
+nine_close = closed_by_selection eight_clauses nine_clauses
+    (λ c h. all_has IsNormal nine_clauses c all_normal h)
+    (λ c h. covers_itself c (Has-append_left eight_clauses (clause (Mev 1 (name ∷ []) ∷ []) (Bad (name ∷ [])) ∷ []) c h))
+    (λ i j at h k. all_has (IsClosedPair i) nine_clauses j (all_has (λ i. AllByRecursion (IsClosedPair i) nine_clauses) nine_clauses i all_closed h) k at)
 
 -- The one solved clause that concludes `bad` has the event that is asked for.
 shown_met : IsMet announcing (ends (Leaf (Variable 1))) ((begins (Leaf (Variable 1)) ∷ []) ∷ []) shown
@@ -310,4 +311,4 @@ nine_satisfied : AreSatisfied announcing announced nine_clauses
 nine_satisfied c h = all_has IsAnsweredFor nine_clauses c all_answered h
 
 pub announcing_shown : IsShown announcing announced eight_clauses nine_clauses
-announcing_shown = record { translation = announcing_translated; closes = nine_close; satisfied = nine_satisfied }
+announcing_shown = shown_by_selection announcing announced eight_clauses nine_clauses announcing_translated nine_close nine_satisfied

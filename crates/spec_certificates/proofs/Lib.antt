@@ -1,5 +1,7 @@
 pub mod OneRuling
+pub mod Selected
 pub mod Accepting
+mod Placing
 mod Ruled
 pub mod Announced
 mod Encrypting

@@ -7,8 +7,9 @@ use Rattle.spec_clauses.specs.Resolvents.{Answer, NoUnifier, Large, Resolvents}
 use Rattle.spec_clauses.proofs.Answers.{one_answer}
 use Rattle.spec_translation.specs.Translation.{Clauses, LargeAt}
 use Rattle.spec_translation.proofs.OneTranslation.{one_translation}
-use Rattle.spec_certificates.specs.Certificate.{Certificate, IsInShape, CoverRowHolds, GoalHolds, Numbered, numbered_from, Pair, pairs_of}
-use Rattle.spec_certificates.specs.Ruling.{Ruling, Shape, Translation, Cover, Closure, Goal, Rest, Or, Shapes, Covers, Answered, Closures, Goals, NoneLeft, bad_ones, Obliged, IsRuled}
+use Rattle.spec_derivations.specs.Choice.{IsRight}
+use Rattle.spec_certificates.specs.Certificate.{Certificate, IsInShape, CoverRowHolds, GoalHolds, Numbered, numbered_from, Choice, by_selection, number_beside, by_numbers, Pair, pairs_by}
+use Rattle.spec_certificates.specs.Ruling.{Ruling, Shape, Translation, Cover, Closure, Goal, Rest, Or, Each, Rights, Covers, Answered, Closures, Goals, NoneLeft, resting_bad, ObligedBy, Obliged, IsRuled, IsRuledBy}
 
 -- there is one ruling at most
 abbrev One : (Ruling → Type 0) → Type 0
@@ -23,9 +24,9 @@ or_one H failure R one a b (inl x) (inr y) = absurd (y.0 x.0)
 or_one H failure R one a b (inr x) (inl y) = absurd (x.0 y.0)
 or_one H failure R one a b (inr x) (inr y) = x.1 ∙ sym y.1
 
-shapes_one : (q : Query) (cs : List Numbered) (R : Ruling → Type 0) → One R → One (Shapes q cs R)
-shapes_one q [] R one a b x y = one a b x y
-shapes_one q (c ∷ cs) R one a b x y = or_one (IsInShape q c.clause) (Shape c.number) (Shapes q cs R) (shapes_one q cs R one) a b x y
+each_one : (IsSo : Numbered → Type 0) (cs : List Numbered) (R : Ruling → Type 0) → One R → One (Each IsSo cs R)
+each_one IsSo [] R one a b x y = one a b x y
+each_one IsSo (c ∷ cs) R one a b x y = or_one (IsSo c) (Shape c.number) (Each IsSo cs R) (each_one IsSo cs R one) a b x y
 
 covers_one : (clauses : List (Clause Term)) (failure : ℕ → Ruling) (cs : List Numbered) (R : Rest) → OneEach R → OneEach (Covers clauses failure cs R)
 covers_one clauses failure [] R one rows a b x y = one rows a b x y
@@ -56,29 +57,35 @@ none_left_one cert [] (goal ∷ goals) a b x y = x ∙ sym y
 none_left_one cert [] [] a b x y = x ∙ sym y
 
 module _ (P : Protocol) (q : Query) (cert : Certificate) where
-  -- what is left behind the translation
-  abbrev pub AllNumbered : List Numbered
+  abbrev AllNumbered : List Numbered
   AllNumbered = numbered_from 1 cert.clauses
 
-  abbrev pub BehindCovers : Rest
-  BehindCovers rows ruling = Closures cert.clauses (pairs_of AllNumbered AllNumbered) (λ rest. Goals P q (bad_ones AllNumbered) (λ goals. NoneLeft cert rest goals) cert.goals) rows ruling
+  module _ (choice : Choice) where
+    -- what is left behind the translation
+    abbrev BehindCovers : Rest
+    BehindCovers rows ruling = Closures cert.clauses (pairs_by choice.chosen AllNumbered AllNumbered) (λ rest. Goals P q (resting_bad choice.rests AllNumbered) (λ goals. NoneLeft cert rest goals) cert.goals) rows ruling
 
-  behind_one : OneEach BehindCovers
-  behind_one = closures_one cert.clauses (pairs_of AllNumbered AllNumbered) (λ rest. Goals P q (bad_ones AllNumbered) (λ goals. NoneLeft cert rest goals) cert.goals)
-      (λ rest. goals_one P q (bad_ones AllNumbered) (λ goals. NoneLeft cert rest goals) (λ goals. none_left_one cert rest goals) cert.goals)
+    behind_one : OneEach BehindCovers
+    behind_one = closures_one cert.clauses (pairs_by choice.chosen AllNumbered AllNumbered) (λ rest. Goals P q (resting_bad choice.rests AllNumbered) (λ goals. NoneLeft cert rest goals) cert.goals)
+        (λ rest. goals_one P q (resting_bad choice.rests AllNumbered) (λ goals. NoneLeft cert rest goals) (λ goals. none_left_one cert rest goals) cert.goals)
 
-  obliged_one : One (Obliged P q cert)
-  obliged_one a b (inl x) (inl y) =
-      let same = one_translation P q (LargeAt x.0) (LargeAt y.0) x.1 y.1 in
-      let points : x.0 ≡ y.0 = cc in x.2 ∙ (ap Translation points ∙ sym y.2)
-  obliged_one a b (inl x) (inr y) = let same = one_translation P q (LargeAt x.0) (Clauses y.0) x.1 y.1 in cc
-  obliged_one a b (inr x) (inl y) = let same = one_translation P q (Clauses x.0) (LargeAt y.0) x.1 y.1 in cc
-  obliged_one a b (inr x) (inr y) =
-      let same = one_translation P q (Clauses x.0) (Clauses y.0) x.1 y.1 in
-      let given : x.0 ≡ y.0 = cc in
-      covers_one cert.clauses Cover (numbered_from 1 y.0) BehindCovers behind_one cert.rows a b
-      (subst (λ g. Covers cert.clauses Cover (numbered_from 1 g) BehindCovers cert.rows a) given x.2) y.2
+    obliged_one : One (ObligedBy choice P q cert)
+    obliged_one a b (inl x) (inl y) =
+        let same = one_translation P q (LargeAt x.0) (LargeAt y.0) x.1 y.1 in
+        let points : x.0 ≡ y.0 = cc in x.2 ∙ (ap Translation points ∙ sym y.2)
+    obliged_one a b (inl x) (inr y) = let same = one_translation P q (LargeAt x.0) (Clauses y.0) x.1 y.1 in cc
+    obliged_one a b (inr x) (inl y) = let same = one_translation P q (Clauses x.0) (LargeAt y.0) x.1 y.1 in cc
+    obliged_one a b (inr x) (inr y) =
+        let same = one_translation P q (Clauses x.0) (Clauses y.0) x.1 y.1 in
+        let given : x.0 ≡ y.0 = cc in
+        covers_one cert.clauses Cover (numbered_from 1 y.0) BehindCovers behind_one cert.rows a b
+        (subst (λ g. Covers cert.clauses Cover (numbered_from 1 g) BehindCovers cert.rows a) given x.2) y.2
 
-  -- A certificate has one ruling.
+  -- A certificate has one ruling, by selection and by numbers.
   pub one_ruling : (a b : Ruling) → IsRuled P q cert a → IsRuled P q cert b → a ≡ b
-  one_ruling a b x y = shapes_one q AllNumbered (Obliged P q cert) obliged_one a b x y
+  one_ruling a b x y = each_one (λ c. IsInShape q c.clause) AllNumbered (Obliged P q cert) (obliged_one by_selection) a b x y
+
+  pub one_ruling_by : (numbers : List ℕ) (a b : Ruling) → IsRuledBy numbers P q cert a → IsRuledBy numbers P q cert b → a ≡ b
+  one_ruling_by numbers a b x y =
+      each_one (λ c. IsInShape q c.clause) AllNumbered (Rights numbers AllNumbered (ObligedBy (by_numbers numbers) P q cert))
+      (each_one (λ c. IsRight c.clause (number_beside numbers c)) AllNumbered (ObligedBy (by_numbers numbers) P q cert) (obliged_one (by_numbers numbers))) a b x y

@@ -2,17 +2,17 @@
 //! have empty bodies, and say in their contracts what holds of the definitions.
 #![tactic(auto)]
 
-ghost use Rattle.std.specs.Prelude.{◌≡◌, Some, List, [], ◌∷◌};
+ghost use Rattle.std.specs.Prelude.{◌≡◌, ◌↔◌, ℕ, Some, List, [], ◌∷◌};
 ghost use Rattle.spec_calculus.specs.Syntax.{Query, Protocol};
 ghost use Rattle.spec_calculus.specs.Runs.{Configuration, run};
 ghost use Rattle.spec_calculus.specs.Secrecy.{IsViolated, Holds};
 ghost use Rattle.spec_terms.specs.Term.{Term};
 ghost use Rattle.spec_clauses.specs.Fact.{Clause};
-ghost use Rattle.spec_certificates.specs.Shown.{IsProper, IsShown};
+ghost use Rattle.spec_certificates.specs.Shown.{IsProper, IsPlacedShown, IsShown};
 ghost use Rattle.spec_certificates.specs.Announcing.{announced, reversed, announcing, one_copy, performed_by};
 ghost use Rattle.spec_certificates.specs.Announcing.{eight_clauses, nine_clauses};
-ghost use Rattle.spec_certificates.specs.Certificate.{Certificate};
-ghost use Rattle.spec_certificates.specs.Ruling.{Ruling, Accepted, Closure, Goal, IsRuled};
+ghost use Rattle.spec_certificates.specs.Certificate.{Certificate, placed_by, selected_numbers};
+ghost use Rattle.spec_certificates.specs.Ruling.{Ruling, Accepted, Closure, Goal, IsRuled, IsRuledBy};
 ghost use Rattle.spec_certificates.specs.Example.{kept_key, encrypting, one_answer, told, eight, eight_rows};
 ghost use Rattle.spec_certificates.specs.Example.{nine_rows, without_row, without_goal};
 ghost use Rattle.spec_certificates.specs.Remembering.{kept_secret, remembering, seven, seven_rows};
@@ -23,10 +23,29 @@ pub fn one_ruling()
         IsRuled P q cert a → IsRuled P q cert b → a ≡ b }
 {}
 
+/// The same of one with numbers beside its clauses, whatever they choose.
+pub fn one_ruling_by_numbers()
+    ensures { (P : Protocol) (q : Query) (cert : Certificate) (numbers : List ℕ) (a b : Ruling) →
+        IsRuledBy numbers P q cert a → IsRuledBy numbers P q cert b → a ≡ b }
+{}
+
+/// By the numbers of what is selected the same is ruled as by selection.
+pub fn selected_numbers_rule_alike()
+    ensures { (P : Protocol) (q : Query) (cert : Certificate) (ruling : Ruling) →
+        IsRuledBy (selected_numbers cert.clauses) P q cert ruling ↔ IsRuled P q cert ruling }
+{}
+
 /// The clauses of an accepted certificate close the translation, and show the query.
 pub fn accepted_certificates_show()
     ensures { (P : Protocol) (q : Query) (cert : Certificate) → IsRuled P q cert Accepted →
         (given : List (Clause Term)) × IsShown P q given cert.clauses }
+{}
+
+/// So do those of one that is accepted by the numbers beside them.
+pub fn accepted_numbers_show()
+    ensures { (P : Protocol) (q : Query) (cert : Certificate) (numbers : List ℕ) →
+        IsRuledBy numbers P q cert Accepted →
+        (given : List (Clause Term)) × IsPlacedShown P q given (placed_by numbers cert.clauses) }
 {}
 
 /// A worked example, a secret: each copy encrypts what it is sent under a key. Its certificate, a row for each of eight clauses, is

@@ -12,12 +12,16 @@ use Rattle.spec_clauses.specs.Limits.{is_large_raw}
 use Rattle.spec_clauses.specs.Resolvents.{IsRawResolvent, Answer, NoUnifier, Large, Resolvents, answer_of, Resolves}
 use Rattle.spec_clauses.specs.Inclusion.{Picks, here, there, Has}
 use Rattle.spec_clauses.specs.Subsumption.{IsCovered}
+use Rattle.spec_clauses.proofs.Inclusion.{Has-map}
+use Rattle.spec_clauses.proofs.Selection.{select-none}
 use Rattle.spec_clauses.proofs.Subsumption.{covered_grown, subsumes_itself}
 use Rattle.spec_clauses.proofs.Answers.{one_answer}
 use Rattle.spec_derivations.specs.Derivation.{nothing, by_clause, Derive}
+use Rattle.spec_derivations.specs.Choice.{clauses_in, number_of, with_selected, all_selected}
 use Rattle.spec_derivations.specs.Closed.{Closes, solved_of, IsAnswered, IsPairClosed}
 use Rattle.spec_derivations.specs.Laws.{SolvedClausesSuffice}
 use Rattle.spec_derivations.proofs.Forest.{bad_not_derived}
+use Rattle.spec_derivations.proofs.Choosing.{selection_chosen, all_selected-clauses, closed_by_selection}
 use Rattle.spec_derivations.specs.Example.{channel, secret, message, knows_channel, makes_names, listens, sends, tells_secret, five_clauses, sends_pair, gives_message}
 
 module _ (clauses others : List (Clause Term)) (grown : (c : Clause Term) → Has clauses c → Has others c) where
@@ -27,13 +31,15 @@ module _ (clauses others : List (Clause Term)) (grown : (c : Clause Term) → Ha
 
 -- A list with the same clauses, in whatever order and however often, is closed too.
 pub closes_same : (given clauses others : List (Clause Term)) → ((c : Clause Term) → Has clauses c → Has others c) → ((c : Clause Term) → Has others c → Has clauses c) → Closes given clauses → Closes given others
-closes_same given clauses others to from closes = record {
-  normal = λ c h. closes.normal c (from c h);
-  covers = λ c h. covered_grown clauses others c to (closes.covers c h);
-  closed = λ i j at h k solved selected.
-      let p = closes.closed i j at (from i h) (from j k) solved selected in
-      record { raw = p.raw; is_raw = p.is_raw; answered = answered_grown clauses others to p.raw p.answered };
-}
+closes_same given clauses others to from closes = closed_by_selection given others
+    (λ c h. closes.normal (with_selected c) (selected c h))
+    (λ c h. covered_grown clauses others c to (subst (λ cs. IsCovered cs c) (all_selected-clauses clauses) (closes.covers c h)))
+    (λ i j at h k solved some.
+    let p = closes.closed (with_selected i) (with_selected j) at (selected i h) (selected j k) (ap number_of ((select-none i.hypotheses).1 solved)) (selection_chosen j ∙ some) in
+    record { raw = p.raw; is_raw = p.is_raw; answered = answered_grown (clauses_in (all_selected clauses)) others (λ c h. to c (subst (λ cs. Has cs c) (all_selected-clauses clauses) h)) p.raw p.answered })
+  where
+    selected : (c : Clause Term) → Has others c → Has (all_selected clauses) (with_selected c)
+    selected c h = Has-map with_selected clauses c (from c h)
 
 -- A pair's answer closes it: no unifier, or resolvents that are covered.
 module _ (clauses : List (Clause Term)) (i j : Clause Term) (at : Selection) where
@@ -170,11 +176,10 @@ all_closed = (
 )
 
 pub five_close : Closes five_clauses five_clauses
-five_close = record {
-  normal = λ c h. all_has IsNormal all_normal h.1;
-  covers = λ c h. (c, h, subsumes_itself c (all_has IsNormal all_normal h.1));
-  closed = λ i j at h k. all_has (IsClosedPair i) (all_has (λ i. AllByRecursion (IsClosedPair i) five_clauses) all_closed h.1) k.1 at;
-}
+five_close = closed_by_selection five_clauses five_clauses
+    (λ c h. all_has IsNormal all_normal h.1)
+    (λ c h. (c, h, subsumes_itself c (all_has IsNormal all_normal h.1)))
+    (λ i j at h k. all_has (IsClosedPair i) (all_has (λ i. AllByRecursion (IsClosedPair i) five_clauses) all_closed h.1) k.1 at)
 
 -- The attacker hears what it has sent: a derivation that uses a clause that isn't solved.
 pub channel_derived : Derive five_clauses [] (Att 0 channel ∷ [])
@@ -232,4 +237,4 @@ solved_not_bad c h us = all_has (λ c. c.conclusion ≡ Bad us → ⊥) all_othe
   all_other = ((λ e. cc), ((λ e. cc), ((λ e. cc), tt)))
 
 pub secret_kept : SolvedClausesSuffice → Derive five_clauses [] (Bad [] ∷ []) → ⊥
-secret_kept suffice d = bad_not_derived [] solved_not_bad (suffice five_clauses five_clauses [] (Bad [] ∷ []) five_close d)
+secret_kept suffice d = bad_not_derived [] solved_not_bad (suffice five_clauses five_clauses five_close [] (Bad [] ∷ []) d)

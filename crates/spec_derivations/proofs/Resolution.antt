@@ -1,5 +1,5 @@
--- The law of resolution: what a solved and an unsolved clause conclude one after the other, a flat part of their raw
--- resolvent concludes.
+-- The law of resolution: what a clause that may rest and one with a chosen hypothesis conclude one after the other, a flat part of
+-- their raw resolvent concludes.
 use Rattle.std.proofs.Common.{◌≡◌, ℕ, ◌⊎◌, Bool, true, false, not, ◌&&◌, cond, nat_eq, List, [], ◌∷◌, ◌++◌, map, refl, sym, ap, ◌∙◌, subst, inl, inr, eqb-true}
 use Rattle.std.specs.Prelude.{Option, Some, None, flat_map}
 use Rattle.std.specs.List.{AllByRecursion, list_all, list_any}
@@ -9,6 +9,7 @@ use Rattle.std.proofs.lemmas.List.Folds.{list_any-append}
 use Rattle.spec_trees.specs.Tree.{Leaf, Node, after}
 use Rattle.spec_trees.proofs.Equality.{and_true}
 use Rattle.spec_trees.proofs.Occurrence.{or_false}
+use Rattle.spec_terms.proofs.Decision.{true_false}
 use Rattle.spec_terms.proofs.Replace.{eqb_self, eqb_sym}
 use Rattle.spec_terms.specs.Term.{Term, Subst}
 use Rattle.spec_terms.specs.Unifier.{moved}
@@ -31,9 +32,9 @@ use Rattle.spec_clauses.proofs.FlatUnder.{all_pass_at, flat-flat, flat_under-fla
 use Rattle.spec_clauses.proofs.Inclusion.{within_self, within-append, pick-flat_map, Has-one, Has-map, Has-map_source, Has-flat_map_source}
 use Rattle.spec_clauses.proofs.Firm.{firm_stays, flat_is_own}
 use Rattle.spec_clauses.proofs.Apart.{mix, mix-clause, mix-fact_moved, mix-high, flat_under-map}
-use Rattle.spec_clauses.proofs.Selection.{select-picks, select-first_of_largest}
 use Rattle.spec_clauses.proofs.NormKeeps.{variable_known, own_norm, normal-everything}
 use Rattle.spec_derivations.specs.Derivation.{Instance, is_required_event}
+use Rattle.spec_derivations.specs.Choice.{CanRest}
 use Rattle.spec_derivations.specs.Laws.{ResolutionLaw, PartFollows}
 
 -- A selected fact is no `att` of a variable, and no `mev` under a substitution.
@@ -54,12 +55,12 @@ selectable_no_event s (Ev n ts) e = refl
 selectable_no_event s (Mev n ts) e = cc
 selectable_no_event s (Bad ts) e = refl
 
--- The solved clause concludes just the fact from no more than these premises, under some substitution.
-record Meets (solved : Clause Term) (above : List (Fact Term)) (f : Fact Term) : Type 0 where
+-- The resting clause concludes just the fact from no more than these premises, under some substitution.
+record Meets (resting : Clause Term) (above : List (Fact Term)) (f : Fact Term) : Type 0 where
   by : Subst
-  met : AreMetBy by solved.diffs
-  concludes : fact_under by solved.conclusion ≡ f
-  premises : IsWithin (flat_under by solved.hypotheses) above
+  met : AreMetBy by resting.diffs
+  concludes : fact_under by resting.conclusion ≡ f
+  premises : IsWithin (flat_under by resting.hypotheses) above
 
 -- f is `att` of a part of the term that s has for the variable of h
 record KnownPart (s : Subst) (h f : Fact Term) : Type 0 where
@@ -149,56 +150,65 @@ passed_loose hs f x same e =
       of_not true k = cc
       of_not false k = refl
 
-meets : (solved : Clause Term) (above : List (Fact Term)) (f : Fact Term) → IsNormal solved → is_solved solved.hypotheses ≡ true → Instance solved above f → Meets solved above f
-meets solved above f normal solves i =
-    go (firm_or_known i.by solved.conclusion f (and_true (is_flat solved.conclusion) (list_all is_flat solved.hypotheses) normal.flat).0 i.concludes) where
+-- A clause that may rest and concludes `att` of a variable is solved.
+rests_solved : (c : Clause Term) → is_variable_known c.conclusion ≡ true → CanRest c → is_solved c.hypotheses ≡ true
+rests_solved c known (inl solves) = solves
+rests_solved c known (inr other) = absurd (true_false (sym known ∙ other))
+
+meets : (resting : Clause Term) (above : List (Fact Term)) (f : Fact Term) → IsNormal resting → CanRest resting → Instance resting above f → Meets resting above f
+meets resting above f normal rests i =
+    go (firm_or_known i.by resting.conclusion f (and_true (is_flat resting.conclusion) (list_all is_flat resting.hypotheses) normal.flat).0 i.concludes) where
       -- the instance that has the part for the variable
-      of_part : (k : KnownPart i.by solved.conclusion f) → AreMetBy (in_part i.by k.variable k.term k.stands) solved.diffs → IsWithin (flat_under (in_part i.by k.variable k.term k.stands) solved.hypotheses) (flat_under i.by solved.hypotheses) → Meets solved above f
+      of_part : (k : KnownPart i.by resting.conclusion f) → AreMetBy (in_part i.by k.variable k.term k.stands) resting.diffs → IsWithin (flat_under (in_part i.by k.variable k.term k.stands) resting.hypotheses) (flat_under i.by resting.hypotheses) → Meets resting above f
       of_part k met within =
           let r = in_part i.by k.variable k.term k.stands in
-          let same : fact_under r (Att (phase_of solved.conclusion) (Leaf k.variable)) ≡ Att (phase_of solved.conclusion) k.term = rw (eqb_self k.variable) refl in
-          record { by = r; met = met; concludes = ap (fact_under r) k.is_variable ∙ (same ∙ sym k.is_known); premises = subst (IsWithin (flat_under r solved.hypotheses)) (sym i.premises_are) within }
+          let same : fact_under r (Att (phase_of resting.conclusion) (Leaf k.variable)) ≡ Att (phase_of resting.conclusion) k.term = rw (eqb_self k.variable) refl in
+          record { by = r; met = met; concludes = ap (fact_under r) k.is_variable ∙ (same ∙ sym k.is_known); premises = subst (IsWithin (flat_under r resting.hypotheses)) (sym i.premises_are) within }
 
-      of_known : (k : KnownPart i.by solved.conclusion f) (b : Bool) → is_passed_on solved.hypotheses solved.conclusion ≡ b → Meets solved above f
+      solves : KnownPart i.by resting.conclusion f → is_solved resting.hypotheses ≡ true
+      solves k = rests_solved resting (ap is_variable_known k.is_variable) rests
+
+      of_known : (k : KnownPart i.by resting.conclusion f) (b : Bool) → is_passed_on resting.hypotheses resting.conclusion ≡ b → Meets resting above f
       of_known k true e =
-          let loose = passed_loose solved.hypotheses solved.conclusion k.variable k.is_variable e in
-          let needed = ((own_norm solved).0 normal.own).none_needless in
-          let passes : passes_on solved ≡ true = cc in
-          of_part k (passed_met i.by k.variable k.term k.stands solved needed passes loose i.met) (passed_within i.by k.variable k.term k.stands solved.hypotheses loose)
+          let loose = passed_loose resting.hypotheses resting.conclusion k.variable k.is_variable e in
+          let needed = ((own_norm resting).0 normal.own).none_needless in
+          let solved = solves k in
+          let passes : passes_on resting ≡ true = (λ i. solved i && e i) in
+          of_part k (passed_met i.by k.variable k.term k.stands resting needed passes loose i.met) (passed_within i.by k.variable k.term k.stands resting.hypotheses loose)
       of_known k false e =
-          let known : is_variable_known solved.conclusion ≡ true = ap is_variable_known k.is_variable in
-          let whole = normal-everything solved normal.own solves known e in
-          let no_hypotheses : solved.hypotheses ≡ [] = ap (λ d. d.hypotheses) whole in
-          let no_diffs : solved.diffs ≡ [] = ap (λ d. d.diffs) whole in
+          let known : is_variable_known resting.conclusion ≡ true = ap is_variable_known k.is_variable in
+          let whole = normal-everything resting normal.own (solves k) known e in
+          let no_hypotheses : resting.hypotheses ≡ [] = ap (λ d. d.hypotheses) whole in
+          let no_diffs : resting.diffs ≡ [] = ap (λ d. d.diffs) whole in
           of_part k (rw no_diffs tt) (rw no_hypotheses tt)
 
-      go : (fact_under i.by solved.conclusion ≡ f) ⊎ KnownPart i.by solved.conclusion f → Meets solved above f
-      go (inl e) = record { by = i.by; met = i.met; concludes = e; premises = subst (IsWithin (flat_under i.by solved.hypotheses)) (sym i.premises_are) (within_self (flat_under i.by solved.hypotheses)) }
-      go (inr k) = of_known k (is_passed_on solved.hypotheses solved.conclusion) refl
+      go : (fact_under i.by resting.conclusion ≡ f) ⊎ KnownPart i.by resting.conclusion f → Meets resting above f
+      go (inl e) = record { by = i.by; met = i.met; concludes = e; premises = subst (IsWithin (flat_under i.by resting.hypotheses)) (sym i.premises_are) (within_self (flat_under i.by resting.hypotheses)) }
+      go (inr k) = of_known k (is_passed_on resting.hypotheses resting.conclusion) refl
 
-module _ (solved unsolved : Clause Term) (at : Selection) (n : ℕ) (apart : AreBelow n (all_terms solved)) (low high : Subst) where
+module _ (resting unsolved : Clause Term) (at : Selection) (n : ℕ) (apart : AreBelow n (all_terms resting)) (low high : Subst) where
   abbrev both : Subst
   both = mix n low high
 
   -- both substitutions in one make the facts equal where they do
-  is_unified : fact_under low solved.conclusion ≡ fact_under high at.fact → fact_under both solved.conclusion ≡ fact_under both (fact_under (moved n) at.fact)
-  is_unified e = ap (λ c. c.conclusion) (mix-clause n low high solved apart) ∙ (e ∙ sym (mix-fact_moved n low high at.fact))
+  is_unified : fact_under low resting.conclusion ≡ fact_under high at.fact → fact_under both resting.conclusion ≡ fact_under both (fact_under (moved n) at.fact)
+  is_unified e = ap (λ c. c.conclusion) (mix-clause n low high resting apart) ∙ (e ∙ sym (mix-fact_moved n low high at.fact))
 
   -- and make of the joined clause the premises of both
-  joined_premises : flat_under both (joined n solved unsolved at).hypotheses ≡ flat_under low solved.hypotheses ++ flat_under high at.others
+  joined_premises : flat_under both (joined n resting unsolved at).hypotheses ≡ flat_under low resting.hypotheses ++ flat_under high at.others
   joined_premises =
-      let sames = ap (λ c. flat_map flat c.hypotheses) (mix-clause n low high solved apart) in
-      let first = sym (flat_under-map both solved.hypotheses) ∙ (sames ∙ flat_under-map low solved.hypotheses) in
+      let sames = ap (λ c. flat_map flat c.hypotheses) (mix-clause n low high resting apart) in
+      let first = sym (flat_under-map both resting.hypotheses) ∙ (sames ∙ flat_under-map low resting.hypotheses) in
       let second = flat_under-facts_under both (moved n) at.others ∙ ap (λ s. flat_under s at.others) (mix-high n low high) in
-      flat_map-append (λ f. flat (fact_under both f)) solved.hypotheses (map (fact_under (moved n)) at.others) ∙ (λ i. first i ++ second i)
+      flat_map-append (λ f. flat (fact_under both f)) resting.hypotheses (map (fact_under (moved n)) at.others) ∙ (λ i. first i ++ second i)
 
-  joined_met : AreMetBy low solved.diffs → AreMetBy high unsolved.diffs → AreMetBy both (joined n solved unsolved at).diffs
+  joined_met : AreMetBy low resting.diffs → AreMetBy high unsolved.diffs → AreMetBy both (joined n resting unsolved at).diffs
   joined_met first second =
-      all_append (IsMetBy both) solved.diffs (map (diff_under (moved n)) unsolved.diffs)
-      (all_met-alike low both solved.diffs (ap (λ c. c.diffs) (sym (mix-clause n low high solved apart))) first)
+      all_append (IsMetBy both) resting.diffs (map (diff_under (moved n)) unsolved.diffs)
+      (all_met-alike low both resting.diffs (ap (λ c. c.diffs) (sym (mix-clause n low high resting apart))) first)
       ((all_met_under both (moved n) unsolved.diffs).1 (subst (λ (s : Subst). AreMetBy s unsolved.diffs) (sym (mix-high n low high)) second))
 
-  joined_conclusion : fact_under both (joined n solved unsolved at).conclusion ≡ fact_under high unsolved.conclusion
+  joined_conclusion : fact_under both (joined n resting unsolved at).conclusion ≡ fact_under high unsolved.conclusion
   joined_conclusion = mix-fact_moved n low high unsolved.conclusion
 
 -- A flat part of a clause concludes what the clause does.
@@ -217,30 +227,30 @@ part_of c q f met has =
     }
 
 -- So of the raw resolvent, whose unifier the joint substitution factors through.
-raw_follows : (solved unsolved : Clause Term) (at : Selection) (raw : Option (Clause Term)) (above premises : List (Fact Term)) (f : Fact Term) (i : Instance unsolved premises f)
-    → Meets solved above (fact_under i.by at.fact) → IsRawResolvent solved unsolved at raw → PartFollows raw (above ++ flat_under i.by at.others) f
-raw_follows solved unsolved at raw above premises f i m is_raw = go raw is_raw.unified where
+raw_follows : (resting unsolved : Clause Term) (at : Selection) (raw : Option (Clause Term)) (above premises : List (Fact Term)) (f : Fact Term) (i : Instance unsolved premises f)
+    → Meets resting above (fact_under i.by at.fact) → IsRawResolvent resting unsolved at raw → PartFollows raw (above ++ flat_under i.by at.others) f
+raw_follows resting unsolved at raw above premises f i m is_raw = go raw is_raw.unified where
   n : ℕ
   n = is_raw.offset
 
   whole : Clause Term
-  whole = joined n solved unsolved at
+  whole = joined n resting unsolved at
 
   one : Subst
   one = mix n m.by i.by
 
-  accepted : fact_under one solved.conclusion ≡ fact_under one (fact_under (moved n) at.fact)
-  accepted = is_unified solved unsolved at n is_raw.apart m.by i.by m.concludes
+  accepted : fact_under one resting.conclusion ≡ fact_under one (fact_under (moved n) at.fact)
+  accepted = is_unified resting unsolved at n is_raw.apart m.by i.by m.concludes
 
   of_clause : (c : Clause Term) (s q : Subst) → after q s ≡ one → c ≡ clause_under s whole → PartFollows (Some c) (above ++ flat_under i.by at.others) f
   of_clause c s q same e =
       let concl : fact_under q c.conclusion ≡ fact_under i.by unsolved.conclusion =
-      ap (λ d. fact_under q d.conclusion) e ∙ (fact_under-fact_under q s whole.conclusion ∙ (ap (λ r. fact_under r whole.conclusion) same ∙ joined_conclusion solved unsolved at n is_raw.apart m.by i.by)) in
-      let prem : flat_under q c.hypotheses ≡ flat_under m.by solved.hypotheses ++ flat_under i.by at.others =
+      ap (λ d. fact_under q d.conclusion) e ∙ (fact_under-fact_under q s whole.conclusion ∙ (ap (λ r. fact_under r whole.conclusion) same ∙ joined_conclusion resting unsolved at n is_raw.apart m.by i.by)) in
+      let prem : flat_under q c.hypotheses ≡ flat_under m.by resting.hypotheses ++ flat_under i.by at.others =
       ap (λ d. flat_under q d.hypotheses) e ∙ (flat_under-facts_under q s whole.hypotheses ∙ (ap (λ r. flat_under r whole.hypotheses) same
-      ∙ joined_premises solved unsolved at n is_raw.apart m.by i.by)) in
-      let met = subst (AreMetBy q) (ap (λ d. d.diffs) (sym e)) ((all_met_under q s whole.diffs).1 (subst (λ (r : Subst). AreMetBy r whole.diffs) (sym same) (joined_met solved unsolved at n is_raw.apart m.by i.by m.met i.met))) in
-      let no_more = within-append (flat_under m.by solved.hypotheses) (flat_under i.by at.others) above (flat_under i.by at.others) m.premises (within_self (flat_under i.by at.others)) in
+      ∙ joined_premises resting unsolved at n is_raw.apart m.by i.by)) in
+      let met = subst (AreMetBy q) (ap (λ d. d.diffs) (sym e)) ((all_met_under q s whole.diffs).1 (subst (λ (r : Subst). AreMetBy r whole.diffs) (sym same) (joined_met resting unsolved at n is_raw.apart m.by i.by m.met i.met))) in
+      let no_more = within-append (flat_under m.by resting.hypotheses) (flat_under i.by at.others) above (flat_under i.by at.others) m.premises (within_self (flat_under i.by at.others)) in
       let p = part_of c q f met (subst (λ (h : Fact Term). Has (flat h) f) (sym concl) i.concludes) in
       record {
         clause = c;
@@ -254,19 +264,17 @@ raw_follows solved unsolved at raw above premises f i m is_raw = go raw is_raw.u
         };
       }
 
-  go : (o : Option (Clause Term)) → MguGives (λ s. fact_under s solved.conclusion ≡ fact_under s (fact_under (moved n) at.fact)) (λ s. clause_under s whole) o → PartFollows o (above ++ flat_under i.by at.others) f
+  go : (o : Option (Clause Term)) → MguGives (λ s. fact_under s resting.conclusion ≡ fact_under s (fact_under (moved n) at.fact)) (λ s. clause_under s whole) o → PartFollows o (above ++ flat_under i.by at.others) f
   go None u = absurd (u one accepted)
   go (Some c) u = let factors = u.1.most one accepted in of_clause c u.0 factors.0 (fun_ext factors.1) u.2
 
 pub resolution_law : ResolutionLaw
-resolution_law unsolved at premises f normal selected i =
-    let chosen = select-first_of_largest unsolved.hypotheses at selected in
-    let listed = select-picks unsolved.hypotheses at selected in
+resolution_law unsolved at premises f normal chosen i =
     let flats = (and_true (is_flat unsolved.conclusion) (list_all is_flat unsolved.hypotheses) normal.flat).1 in
-    let one_fact = firm_stays i.by at.fact (all_pass_at is_flat flats listed) (selectable_firm at.fact chosen.selectable) in
+    let one_fact = firm_stays i.by at.fact (all_pass_at is_flat flats chosen.picked) (selectable_firm at.fact chosen.selectable) in
     record {
       rest = flat_under i.by at.others;
-      picked = subst (λ (hs : List (Fact Term)). Picks hs (fact_under i.by at.fact) (flat_under i.by at.others)) (sym i.premises_are) (pick-flat_map (λ g. flat (fact_under i.by g)) listed one_fact);
+      picked = subst (λ (hs : List (Fact Term)). Picks hs (fact_under i.by at.fact) (flat_under i.by at.others)) (sym i.premises_are) (pick-flat_map (λ g. flat (fact_under i.by g)) chosen.picked one_fact);
       no_event = selectable_no_event i.by at.fact chosen.selectable;
-      resolves = λ solved raw above own solves is_raw j. raw_follows solved unsolved at raw above premises f i (meets solved above (fact_under i.by at.fact) own solves j) is_raw;
+      resolves = λ resting raw above own rests is_raw j. raw_follows resting unsolved at raw above premises f i (meets resting above (fact_under i.by at.fact) own rests j) is_raw;
     }

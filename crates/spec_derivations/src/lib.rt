@@ -2,17 +2,21 @@
 //! in `specs/`; the functions here have empty bodies, and say in their contracts what holds of the definitions.
 #![tactic(auto)]
 
-ghost use Rattle.std.specs.Prelude.{◌≡◌, ◌↔◌, true, false, Some, List, [], ◌∷◌, ◌++◌};
+ghost use Rattle.std.specs.Prelude.{◌≡◌, ◌↔◌, ◌⊎◌, true, false, Some, List, [], ◌∷◌, ◌++◌};
 ghost use Rattle.spec_terms.specs.Term.{Term};
 ghost use Rattle.spec_clauses.specs.Fact.{Fact, Att, Bad, Clause};
 ghost use Rattle.spec_clauses.specs.Selection.{Selection, select, is_solved};
+ghost use Rattle.spec_clauses.specs.Norm.{IsNormal};
 ghost use Rattle.spec_clauses.specs.Resolvents.{Answer, NoUnifier, Resolvents, Resolves};
 ghost use Rattle.spec_clauses.specs.Inclusion.{Has, IsWithin};
 ghost use Rattle.spec_clauses.specs.Subsumption.{IsCovered};
 ghost use Rattle.spec_derivations.specs.Derivation.{Instance, is_required_event, Derive};
-ghost use Rattle.spec_derivations.specs.Closed.{Closes, IsPairClosed, solved_of};
+ghost use Rattle.spec_derivations.specs.Choice.{choice_of, IsRight, Placed, resting_of, number_of};
+ghost use Rattle.spec_derivations.specs.Closed.{IsPairClosed, ArePairsClosed, Closes, solved_of};
+ghost use Rattle.spec_derivations.specs.Resting.{reads, four_placed, four_clauses};
 ghost use Rattle.spec_derivations.specs.Example.{channel, five_clauses, listens, sends_pair, gives_message};
-ghost use Rattle.spec_derivations.specs.Laws.{NormLaw, RowLaw, SubsumptionLaw, ResolutionLaw, SolvedClausesSuffice};
+ghost use Rattle.spec_derivations.specs.Laws.{NormLaw, RowLaw, SubsumptionLaw, ResolutionLaw};
+ghost use Rattle.spec_derivations.specs.Laws.{RestingClausesSuffice, SolvedClausesSuffice};
 
 /// The law of norm: an instance of a flat clause has what it concludes among its premises, or the clause's norm
 /// concludes the same from no more.
@@ -27,23 +31,53 @@ pub fn subsumption_keeps_instances()
     ensures subsumption { SubsumptionLaw }
 {}
 
-/// The law of resolution: the selected hypothesis of an instance is one of its premises, and what a solved
-/// clause that concludes it makes needless, a flat part of the raw resolvent does without.
-pub fn resolution_keeps_instances()
+/// The law of resolution: a chosen hypothesis of an instance is one of its premises, and what a clause that may
+/// rest and concludes it makes needless, a flat part of the raw resolvent does without.
+pub fn resolution_keeps_chosen_instances()
     ensures { ResolutionLaw }
 {}
 
-/// What is derived from given clauses is derived by the solved clauses of a list that is closed over them, with
-/// the same events (Blanchet 2001, section 4). This rests on the three laws alone.
+/// What is derived from given clauses is derived by the clauses that rest of a list that is closed over them, with the
+/// same events, whichever hypotheses are chosen of the others (Bachmair and Ganzinger 2001, resolution with free
+/// selection). This rests on the three laws alone.
+pub fn resting_clauses_suffice()
+    ensures suffice { RestingClausesSuffice }
+    ensures resting { (placed : List Placed) (c : Clause Term) → Has (resting_of placed) c ↔
+        ((p : Placed) × Has placed p × (p.number ≡ 0) × (c ≡ p.clause)) }
+{
+    norm_keeps_instances();
+    subsumption_keeps_instances();
+    resolution_keeps_chosen_instances();
+}
+
+/// Where the largest hypotheses are chosen, the solved clauses do (Blanchet 2001, section 4).
 pub fn solved_clauses_suffice()
     ensures suffice { SolvedClausesSuffice }
     ensures solved { (clauses : List (Clause Term)) (c : Clause Term) →
         Has (solved_of clauses) c ↔ (Has clauses c × (is_solved c.hypotheses ≡ true)) }
 {
-    norm_keeps_instances();
-    subsumption_keeps_instances();
-    resolution_keeps_instances();
+    resting_clauses_suffice();
 }
+
+/// Selection is a choice: the number of what is selected of a clause chooses it, and is right beside the clause.
+pub fn selection_is_a_choice()
+    ensures chosen { (c : Clause Term) →
+        choice_of c (number_of (select c.hypotheses)) ≡ select c.hypotheses }
+    ensures right { (c : Clause Term) → IsRight c (number_of (select c.hypotheses)) }
+{}
+
+/// The worked example of why a clause that concludes `att` of a variable may rest only where it is solved: of four
+/// clauses all numbers are right but that of such a one, and all that their pairs give is covered; `bad` is derived
+/// from the four, but not by those that rest.
+pub fn rest_matters()
+    ensures normal { (p : Placed) → Has four_placed p → IsNormal p.clause }
+    ensures right { (p : Placed) → Has four_placed p →
+        IsRight p.clause p.number ⊎ (p ≡ reads) }
+    ensures wrong { IsRight reads.clause reads.number → ⊥ }
+    ensures closed { ArePairsClosed four_placed }
+    ensures derived { Derive four_clauses [] (Bad [] ∷ []) }
+    ensures lost { Derive (resting_of four_placed) [] (Bad [] ∷ []) → ⊥ }
+{}
 
 /// Facts are derived together where they are derived, and more clauses and more events derive no less.
 pub fn derivations_are_joined_and_grow()

@@ -1,4 +1,4 @@
--- Correspondences hold: where each solved clause of a closed list that concludes `bad` is satisfied, no run violates the correspondence.
+-- Correspondences hold: where rules suffice, and each of them that concludes `bad` is satisfied, no run violates the correspondence.
 use Rattle.std.proofs.Common.{◌≡◌, ◌∙◌, ℕ, zero, suc, true, List, [], ◌∷◌, ◌++◌, map, refl, ap, sym, subst}
 use Rattle.std.specs.Prelude.{slice_get, take, flat_map}
 use Rattle.std.specs.List.{AllByRecursion}
@@ -24,14 +24,14 @@ use Rattle.spec_clauses.specs.Inclusion.{here, Has}
 use Rattle.spec_clauses.proofs.Inclusion.{all_has, Contains-from_Has, Has-map_source, Has-flat_map, Has-one}
 use Rattle.spec_clauses.proofs.Lists.{all_append, all_first, all_weaker}
 use Rattle.spec_derivations.specs.Derivation.{Instance, Derive}
-use Rattle.spec_derivations.specs.Closed.{Closes, solved_of}
-use Rattle.spec_derivations.specs.Laws.{SolvedClausesSuffice}
+use Rattle.spec_derivations.specs.Laws.{Suffice}
 use Rattle.spec_derivations.proofs.Forest.{required_allowed}
 use Rattle.spec_translation.specs.Conversion.{converted, converted_row}
 use Rattle.spec_translation.specs.Goal.{query_leaf, query_term, event_variables, goal_raw, required}
 use Rattle.spec_translation.specs.Translation.{Clauses, IsTranslation}
-use Rattle.spec_translation.specs.Satisfied.{IsMet, AreSatisfied}
+use Rattle.spec_translation.specs.Satisfied.{IsMet}
 use Rattle.spec_translation.proofs.Conversions.{converted-bind, converted_row-trees}
+use Rattle.spec_certificates.specs.Shown.{EachSatisfied}
 use Rattle.spec_abstraction.specs.Trace.{MadeAt, trace_of}
 use Rattle.spec_abstraction.specs.Naming.{atom_term, abstracted, performed_fact, event_fact, event_facts, naming}
 use Rattle.spec_abstraction.specs.OneToOne.{is_foreign, IsOneToOne}
@@ -59,7 +59,7 @@ terms_under P r s (t ∷ ts) =
     let others = terms_under P r s ts in λ i. first i ∷ others i
 
 -- Required events that an instance of a clause has among its premises were performed, with the terms of the hypotheses.
-module _ (P : Protocol) (made : List MadeAt) (one : IsOneToOne P (naming P made) made) (performed : List Performed) (lacks : AllByRecursion (EventLacks (is_foreign made)) performed) (clauses : List (Clause Term)) (c : Clause Term) (premises : List (Fact Term)) (f : Fact Term) (i : Instance c premises f) (derived : Derive (solved_of clauses) (event_facts P (naming P made) performed) premises) (s : Subst) where
+module _ (P : Protocol) (made : List MadeAt) (one : IsOneToOne P (naming P made) made) (performed : List Performed) (lacks : AllByRecursion (EventLacks (is_foreign made)) performed) (rules : List (Clause Term)) (c : Clause Term) (premises : List (Fact Term)) (f : Fact Term) (i : Instance c premises f) (derived : Derive rules (event_facts P (naming P made) performed) premises) (s : Subst) where
   required_found : (e : EventTerm) → Has c.hypotheses (fact_under s (required P e)) → (p : Performed) × Has performed p × Answers P made one i.by s e p
   required_found e has =
       let terms = map (bind i.by) (map (bind s) (map (query_term P) e.arguments)) in
@@ -74,7 +74,7 @@ module _ (P : Protocol) (made : List MadeAt) (one : IsOneToOne P (naming P made)
       ∙ sym (converted_row-trees P (atom_term (naming P made)) p.arguments)) in
       (p, happened, record { event = event; row = row; lacks = row_lacks (is_foreign made) p.arguments (all_has (EventLacks (is_foreign made)) performed p lacks happened) })
 
-module _ (solved_suffice : SolvedClausesSuffice) (P : Protocol) (left : EventTerm) (alternatives : List (List EventTerm)) (all clauses : List (Clause Term)) (closes : Closes all clauses) (proper : (d : ℕ) → AllByRecursion IsProperRule (rules_of P d)) (linear : HasLinearPatterns P.main) (query : HasQueryLeaves P (Correspondence left alternatives)) where
+module _ (P : Protocol) (left : EventTerm) (alternatives : List (List EventTerm)) (all rules : List (Clause Term)) (suffice : Suffice all rules) (proper : (d : ℕ) → AllByRecursion IsProperRule (rules_of P d)) (linear : HasLinearPatterns P.main) (query : HasQueryLeaves P (Correspondence left alternatives)) where
   -- the left side holds free names and variables that are numbered from 1
   left_leaves : AllByRecursion IsQueryLeaf (row_leaves (trees left.arguments))
   left_leaves =
@@ -86,7 +86,7 @@ module _ (solved_suffice : SolvedClausesSuffice) (P : Protocol) (left : EventTer
   bad_terms : Subst → List Term
   bad_terms s = map (bind s) (map (λ i. query_leaf (Variable i)) (event_variables left))
 
-  pub correspondences_hold : IsTranslation P (Correspondence left alternatives) (Clauses all) → AreSatisfied P (Correspondence left alternatives) clauses → Holds P (Correspondence left alternatives)
+  pub correspondences_hold : IsTranslation P (Correspondence left alternatives) (Clauses all) → EachSatisfied P (Correspondence left alternatives) rules → Holds P (Correspondence left alternatives)
   unfolding left_leaves bad_terms
   correspondences_hold is satisfied steps c reached (index, violated) =
       let made = (trace_of P steps).made in
@@ -107,8 +107,8 @@ module _ (solved_suffice : SolvedClausesSuffice) (P : Protocol) (left : EventTer
         concludes = ([], here);
       } in
       let bad = concluded (event_facts P names before) all (goal_raw P (Correspondence left alternatives)) (performed_fact P names happened ∷ []) (Bad (bad_terms s)) refl holds.goal goal (derived.happened index happened violated.is_instance) in
-      let shown = shown_bad solved_suffice P (Correspondence left alternatives) all clauses closes satisfied (event_facts P names before) (bad_terms s) bad in
-      let met : IsMet P left alternatives shown.clause = satisfied shown.clause shown.listed shown.solved shown.concludes in
+      let shown = shown_bad all rules suffice (event_facts P names before) (bad_terms s) bad in
+      let met : IsMet P left alternatives shown.clause = satisfied shown.clause shown.listed shown.concludes in
       let r = shown.instance.by in
       let both : Has (Bad (map (bind r) (bad_terms met.by)) ∷ []) (Bad (bad_terms s)) = subst (λ g. Has (flat (fact_under r g)) (Bad (bad_terms s))) met.conclusion shown.instance.concludes in
       let bads : Bad (bad_terms s) ≡ Bad (map (bind r) (bad_terms met.by)) = Has-one both in
@@ -120,7 +120,7 @@ module _ (solved_suffice : SolvedClausesSuffice) (P : Protocol) (left : EventTer
         lacks = row_lacks (is_foreign made) (values_of environment left.arguments) event_lacks;
       } in
       let found = all_weaker (λ e. Has shown.clause.hypotheses (fact_under met.by (required P e))) (λ e. (p : Performed) × Has before p × Answers P made one r met.by e p)
-      (required_found P made one before (all_taken (EventLacks (is_foreign made)) index c.events lacks) clauses shown.clause shown.premises (Bad (bad_terms s)) shown.instance shown.derived met.by) met.alternative met.events in
+      (required_found P made one before (all_taken (EventLacks (is_foreign made)) index c.events lacks) rules shown.clause shown.premises (Bad (bad_terms s)) shown.instance shown.derived met.by) met.alternative met.events in
       let first = places_row (trees left.arguments) (trees happened.arguments) in
       let later = bindings_of P made one r met.by before met.alternative found in
       let back = all_append (IsAnswered P made one r met.by) first later (places_row_back P made one (leaf_under r met.by) (trees left.arguments) (trees happened.arguments) answers.row answers.lacks) (bindings_back P made one r met.by before met.alternative found) in

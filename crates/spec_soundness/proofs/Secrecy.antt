@@ -6,7 +6,7 @@ use Rattle.spec_trees.specs.Tree.{Leaf, bind, node, some_leaf}
 use Rattle.spec_trees.specs.Leaves.{leaves}
 use Rattle.spec_trees.proofs.Rows.{bind-node}
 use Rattle.spec_trees.proofs.Substitution.{bind-Leaf}
-use Rattle.spec_calculus.specs.Syntax.{Name, Made, Variable, Query, Secret, SecretNew, Protocol}
+use Rattle.spec_calculus.specs.Syntax.{Name, Made, Variable, Secret, SecretNew, Protocol}
 use Rattle.spec_calculus.specs.Syntax as calculus
 use Rattle.spec_calculus.specs.Points.{greatest_phase}
 use Rattle.spec_calculus.specs.Values.{MadeName, value_of}
@@ -20,18 +20,17 @@ use Rattle.spec_well_formed.specs.Queries.{IsDeclaredFree}
 use Rattle.spec_terms.specs.Term.{Point, Term}
 use Rattle.spec_clauses.specs.Fact.{Fact, Att, Bad, Clause}
 use Rattle.spec_clauses.specs.Flat.{flat, flat_under}
-use Rattle.spec_clauses.specs.Selection.{is_solved}
 use Rattle.spec_clauses.specs.Inclusion.{here, Has}
-use Rattle.spec_clauses.proofs.Inclusion.{all_has, Has-filter_source}
+use Rattle.spec_clauses.proofs.Inclusion.{all_has}
 use Rattle.spec_derivations.specs.Derivation.{Instance, Derive}
-use Rattle.spec_derivations.specs.Closed.{Closes, solved_of}
-use Rattle.spec_derivations.specs.Laws.{SolvedClausesSuffice}
+use Rattle.spec_derivations.specs.Laws.{Suffice}
 use Rattle.spec_translation.specs.Conversion.{name_term, leaf_term}
 use Rattle.spec_translation.specs.Attacker.{variables_from}
 use Rattle.spec_translation.specs.Goal.{query_leaf, query_term, goal_raw, arguments_at}
 use Rattle.spec_translation.specs.Translation.{Clauses, IsTranslation}
-use Rattle.spec_translation.specs.Satisfied.{is_bad, AreSatisfied}
+use Rattle.spec_translation.specs.Satisfied.{is_bad}
 use Rattle.spec_translation.proofs.Conversions.{converted-same}
+use Rattle.spec_certificates.specs.Shown.{EachSatisfied}
 use Rattle.spec_abstraction.specs.Trace.{past_count, trace_of}
 use Rattle.spec_abstraction.specs.Naming.{Naming, abstracted, made_term, event_facts, naming}
 use Rattle.spec_abstraction.specs.Taken.{IsTaken}
@@ -59,32 +58,29 @@ pub secret_term : (P : Protocol) (names : Naming) (message : calculus.Term) → 
 secret_term P names message free =
     abstracted-value P names [] message ∙ converted-same P (leaf_term []) query_leaf message (free_leaves P (leaves message) free)
 
-module _ (solved_suffice : SolvedClausesSuffice) (P : Protocol) (q : Query) (all clauses : List (Clause Term)) (closes : Closes all clauses) (satisfied : AreSatisfied P q clauses) where
-  -- where `bad` is derived, a solved clause of the closed list concludes it, with premises that are derived
+module _ (all rules : List (Clause Term)) (suffice : Suffice all rules) where
+  -- where `bad` is derived, one of the rules concludes it, with premises that they derive
   pub record ShownBad (events : List (Fact Term)) (ts : List Term) : Type 0 where
     pub clause : Clause Term
     pub premises : List (Fact Term)
-    pub listed : Has clauses clause
-    pub solved : is_solved clause.hypotheses ≡ true
+    pub listed : Has rules clause
     pub concludes : is_bad clause.conclusion ≡ true
     pub instance : Instance clause premises (Bad ts)
-    pub derived : Derive (solved_of clauses) events premises
+    pub derived : Derive rules events premises
 
   pub shown_bad : (events : List (Fact Term)) (ts : List Term) → Derive all events (Bad ts ∷ []) → ShownBad events ts
   shown_bad events ts d =
-      let r = bad_root (Has (solved_of clauses)) events ts refl (solved_suffice all clauses events (Bad ts ∷ []) closes d) in
-      let (listed, solved) = Has-filter_source (λ c. is_solved c.hypotheses) clauses r.clause r.is_rule in
+      let r = bad_root (Has rules) events ts refl (suffice events (Bad ts ∷ []) d) in
       record {
         clause = r.clause;
         premises = r.premises;
-        listed = listed;
-        solved = solved;
+        listed = r.is_rule;
         concludes = concludes_bad r.clause r.premises ts r.instance;
         instance = r.instance;
         derived = r.derived;
       }
 
-module _ (solved_suffice : SolvedClausesSuffice) (P : Protocol) (all clauses : List (Clause Term)) (closes : Closes all clauses) (proper : (d : ℕ) → AllByRecursion IsProperRule (rules_of P d)) (linear : HasLinearPatterns P.main) where
+module _ (P : Protocol) (all rules : List (Clause Term)) (suffice : Suffice all rules) (proper : (d : ℕ) → AllByRecursion IsProperRule (rules_of P d)) (linear : HasLinearPatterns P.main) where
   -- the goal of a message: what the attacker has of it shows `bad`
   message_shows : (message : calculus.Term) (phase : ℕ) (events : List (Fact Term)) → IsTaken all (goal_raw P (Secret message phase)) → Derive all events (flat (Att phase (query_term P message))) → Derive all events (Bad [] ∷ [])
   message_shows message phase events taken d =
@@ -92,7 +88,7 @@ module _ (solved_suffice : SolvedClausesSuffice) (P : Protocol) (all clauses : L
       concluded events all (goal_raw P (Secret message phase)) (flat (Att phase (query_term P message))) (Bad []) refl taken
       (record { by = Leaf; premises_are = sym hypotheses; met = tt; concludes = ([], here) }) d
 
-  pub messages_are_kept : (message : calculus.Term) (phase : ℕ) → AllByRecursion (IsDeclaredFree (signature_of P)) (leaves message) → phase ≤ greatest_phase P.main → IsTranslation P (Secret message phase) (Clauses all) → AreSatisfied P (Secret message phase) clauses → Holds P (Secret message phase)
+  pub messages_are_kept : (message : calculus.Term) (phase : ℕ) → AllByRecursion (IsDeclaredFree (signature_of P)) (leaves message) → phase ≤ greatest_phase P.main → IsTranslation P (Secret message phase) (Clauses all) → EachSatisfied P (Secret message phase) rules → Holds P (Secret message phase)
   messages_are_kept message phase free asked is satisfied steps c reached (known, before) =
       let made = (trace_of P steps).made in
       let names = naming P made in
@@ -101,8 +97,8 @@ module _ (solved_suffice : SolvedClausesSuffice) (P : Protocol) (all clauses : L
       let has = each-contains (λ v. Derive all events (flat (Att phase (abstracted P names v)))) c.known (value_of [] message) (derived.known phase before asked) known in
       let there = subst (λ t. Derive all events (flat (Att phase t))) (secret_term P names message free) has in
       let goal = (translations_hold_all P (Secret message phase) all is).goal in
-      let shown = shown_bad solved_suffice P (Secret message phase) all clauses closes satisfied events [] (message_shows message phase events goal there) in
-      satisfied shown.clause shown.listed shown.solved shown.concludes
+      let shown = shown_bad all rules suffice events [] (message_shows message phase events goal there) in
+      satisfied shown.clause shown.listed shown.concludes
 
   -- the goal of a restriction: a name of it that the attacker has shows `bad`
   name_shows : (point phase : ℕ) (ts : List Term) (events : List (Fact Term)) → arguments_at P point ≡ length ts → IsTaken all (goal_raw P (SecretNew point phase)) → Derive all events (flat (Att phase (node (Point point) ts))) → Derive all events (Bad [] ∷ [])
@@ -114,7 +110,7 @@ module _ (solved_suffice : SolvedClausesSuffice) (P : Protocol) (all clauses : L
       concluded events all (goal_raw P (SecretNew point phase)) (flat (Att phase (node (Point point) ts))) (Bad []) refl taken
       (record { by = nth ts; premises_are = sym hypotheses; met = tt; concludes = ([], here) }) d
 
-  pub names_are_kept : (point phase : ℕ) → phase ≤ greatest_phase P.main → IsTranslation P (SecretNew point phase) (Clauses all) → AreSatisfied P (SecretNew point phase) clauses → Holds P (SecretNew point phase)
+  pub names_are_kept : (point phase : ℕ) → phase ≤ greatest_phase P.main → IsTranslation P (SecretNew point phase) (Clauses all) → EachSatisfied P (SecretNew point phase) rules → Holds P (SecretNew point phase)
   names_are_kept point phase asked is satisfied steps c reached ((number, known), before) =
       let made = (trace_of P steps).made in
       let names = naming P made in
@@ -133,5 +129,5 @@ module _ (solved_suffice : SolvedClausesSuffice) (P : Protocol) (all clauses : L
       let there : Derive all events (flat (Att phase (node (Point point) (messages ++ sessions)))) =
       subst (λ t. Derive all events (flat (Att phase t))) (term ∙ ap (λ p. name_term p messages sessions) at) has in
       let goal = (translations_hold_all P (SecretNew point phase) all is).goal in
-      let shown = shown_bad solved_suffice P (SecretNew point phase) all clauses closes satisfied events [] (name_shows point phase (messages ++ sessions) events whole goal there) in
-      satisfied shown.clause shown.listed shown.solved shown.concludes
+      let shown = shown_bad all rules suffice events [] (name_shows point phase (messages ++ sessions) events whole goal there) in
+      satisfied shown.clause shown.listed shown.concludes

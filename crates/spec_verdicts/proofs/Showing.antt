@@ -14,12 +14,14 @@ use Rattle.spec_clauses.proofs.Inclusion.{Has-append_left, Has-append_right}
 use Rattle.spec_clauses.proofs.Selection.{select-none}
 use Rattle.spec_clauses.proofs.Subsumption.{row_subsumes}
 use Rattle.spec_derivations.specs.Closed.{IsPairClosed}
+use Rattle.spec_derivations.proofs.Choosing.{closed_by_selection}
 use Rattle.spec_derivations.proofs.Closing.{none_closes, resolvents_close}
 use Rattle.spec_translation.specs.Translation.{Clauses, IsTranslation}
 use Rattle.spec_translation.proofs.Goal.{clauses_normal}
 use Rattle.spec_certificates.specs.Shown.{IsShown}
-use Rattle.spec_certificates.specs.Certificate.{Certificate, CoverRowHolds, numbered_from, Pair}
+use Rattle.spec_certificates.specs.Certificate.{Certificate, CoverRowHolds, numbered_from, by_selection, Pair}
 use Rattle.spec_certificates.proofs.Accepting.{pair_listed}
+use Rattle.spec_certificates.proofs.Selected.{shown_by_selection}
 use Rattle.spec_saturation.proofs.Pairs.{has_numbered, closed_covers}
 use Rattle.spec_verdicts.specs.FirstRows.{AreFirstCovers}
 use Rattle.spec_verdicts.specs.First.{resolvents_of, AllGive, all_pairs}
@@ -76,21 +78,16 @@ proved_shows P q given budget cert translated p =
     let normal = (closed_covers given (clauses_normal P q given translated) budget p.log cert.clauses p.is_log p.live).normal in
     let f = p.certificate in
     let covered = rows_cover cert.clauses normal (given ++ f.made) cert.rows f.covers in
-    record {
-      translation = translated;
-      closes = record {
-        normal = normal;
-        covers = λ c h. covered c (Has-append_left given f.made c h);
-        closed = λ i j at hi hj solved some.
-            let (k, ni) = listed_numbered 1 cert.clauses i hi in
-            let (l, nj) = listed_numbered 1 cert.clauses j hj in
-            let all = numbered_from 1 cert.clauses in
-            let pair : Pair = record { solved = record { number = k; clause = i }; unsolved = record { number = l; clause = j }; at = at } in
-            pairs_closed cert.clauses normal (all_pairs cert.clauses) f.made f.give (λ c h. covered c (Has-append_right given f.made c h)) pair
-            (pair_listed all all (record { number = k; clause = i }) (record { number = l; clause = j }) at ni nj ((select-none i.hypotheses).1 solved) some);
-      };
-      satisfied = bad_satisfied P q cert.clauses cert.goals f.goals;
-    }
+    shown_by_selection P q given cert.clauses translated
+    (closed_by_selection given cert.clauses normal (λ c h. covered c (Has-append_left given f.made c h))
+    (λ i j at hi hj solved some.
+    let (k, ni) = listed_numbered 1 cert.clauses i hi in
+    let (l, nj) = listed_numbered 1 cert.clauses j hj in
+    let all = numbered_from 1 cert.clauses in
+    let pair : Pair = record { solved = record { number = k; clause = i }; unsolved = record { number = l; clause = j }; at = at } in
+    pairs_closed cert.clauses normal (all_pairs cert.clauses) f.made f.give (λ c h. covered c (Has-append_right given f.made c h)) pair
+    (pair_listed by_selection.chosen all all (record { number = k; clause = i }) (record { number = l; clause = j }) at ni nj ((select-none i.hypotheses).1 solved) some)))
+    (bad_satisfied P q cert.clauses cert.goals f.goals)
 
 pub verdict_shows : (P : Protocol) (q : Query) (budget : ℕ) (cert : Certificate) → IsVerdict P q budget (Proved cert) → (given : List (Clause Term)) × IsShown P q given cert.clauses
 verdict_shows P q budget cert (inl x) = let wrong = x.2 in cc

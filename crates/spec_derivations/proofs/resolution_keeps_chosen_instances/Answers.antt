@@ -1,5 +1,5 @@
 use Rattle.spec_derivations.proofs.Resolution.{resolution_law}
-use Rattle.spec_derivations.proofs.resolution_keeps_instances.Goals as goal
+use Rattle.spec_derivations.proofs.resolution_keeps_chosen_instances.Goals as goal
 
 pub returns : goal.returns
 returns c = resolution_law
