@@ -5,10 +5,11 @@ use Rattle.spec_terms.specs.Term.{Term}
 use Rattle.spec_clauses.specs.Fact.{Clause}
 use Rattle.spec_clauses.specs.Resolvents.{Answer, NoUnifier, Large, Resolvents}
 use Rattle.spec_translation.specs.Translation.{LargeAt, IsTranslation}
-use Rattle.spec_certificates.specs.Certificate.{Certificate, bad_arguments, IsInShape, CoverRowHolds, GoalHolds, Numbered, numbered_from, Pair, pairs_of}
-use Rattle.spec_certificates.specs.Ruling.{Ruling, Shape, Translation, Cover, Closure, Goal, Rest, Shapes, Covers, Answered, Closures, Goals, NoneLeft, bad_ones, Obliged, IsRuled}
+use Rattle.spec_certificates.specs.Certificate.{Certificate, bad_arguments, IsInShape, CoverRowHolds, GoalHolds, Numbered, numbered_from, by_numbers, Pair, pairs_by}
+use Rattle.spec_certificates.specs.Ruling.{Ruling, Shape, Translation, Cover, Closure, Goal, Rest, Shapes, Rights, Covers, Answered, Closures, Goals, NoneLeft, resting_bad, ObligedBy, IsRuledBy}
 use Rattle.cert_stages.specs.Stages.{AreShown, FirstUnshown, IsAnswerCovered, IsAnswerUncovered, AreClosed, FirstOpen, HasShape, AreInShape, FirstMisshapen}
-use Rattle.cert_checker.specs.Reached.{clauses_of, HasShapes, IsTranslatedTo, HasCovered, HasClosed}
+use Rattle.cert_stages.specs.Answers.{rests_by, chosen_by, AreRight, FirstWrong}
+use Rattle.cert_checker.specs.Reached.{clauses_of, HasShapes, HasRights, IsTranslatedTo, HasCovered, HasClosed}
 
 -- shapes
 in_shape : (q : Query) (c : Clause Term) → HasShape (bad_arguments q) c → IsInShape q c
@@ -16,6 +17,16 @@ in_shape q c x = record { small = x.small; normal = x.normal; arguments = x.as_m
 
 has_shape : (q : Query) (c : Clause Term) → IsInShape q c → HasShape (bad_arguments q) c
 has_shape q c x = record { small = x.small; normal = x.normal; as_many = x.arguments }
+
+-- numbers
+rights_go_on : (numbers : List ℕ) (cs : List Numbered) (R : Ruling → Type 0) (ruling : Ruling) → AreRight numbers cs → R ruling → Rights numbers cs R ruling
+rights_go_on numbers [] R ruling right x = x
+rights_go_on numbers (c ∷ cs) R ruling right x = inl (right.0, rights_go_on numbers cs R ruling right.1 x)
+
+rights_end : (numbers : List ℕ) (cs : List Numbered) (R : Ruling → Type 0) (number : ℕ) → FirstWrong numbers cs number → Rights numbers cs R (Shape number)
+rights_end numbers [] R number x = absurd x
+rights_end numbers (c ∷ cs) R number (inl x) = inr (x.0, ap Shape x.1)
+rights_end numbers (c ∷ cs) R number (inr x) = inl (x.0, rights_end numbers cs R number x.1)
 
 shapes_go_on : (q : Query) (cs : List Numbered) (R : Ruling → Type 0) (ruling : Ruling) → AreInShape (bad_arguments q) cs → R ruling → Shapes q cs R ruling
 shapes_go_on q [] R ruling shaped x = x
@@ -80,40 +91,56 @@ goals_end P q (c ∷ cs) R [] number (inr x) = absurd x.0
 goals_end P q (c ∷ cs) R (row ∷ rows) number (inl x) = inr (x.0, ap Goal x.1)
 goals_end P q (c ∷ cs) R (row ∷ rows) number (inr x) = inl (x.0, goals_end P q cs R rows number x.1)
 
--- The stages of a certificate, composed.
-module _ (P : Protocol) (q : Query) (cert : Certificate) where
-  pub shape_fails : (number : ℕ) → FirstMisshapen (bad_arguments q) (clauses_of cert) number → IsRuled P q cert (Shape number)
-  shape_fails number x = shapes_end q (clauses_of cert) (Obliged P q cert) number x
+-- The stages of a certificate with numbers, composed.
+module _ (numbers : List ℕ) (P : Protocol) (q : Query) (cert : Certificate) where
+  abbrev Behind : Ruling → Type 0
+  Behind = ObligedBy (by_numbers numbers) P q cert
 
-  pub translation_large : (point : ℕ) → HasShapes q cert → IsTranslation P q (LargeAt point) → IsRuled P q cert (Translation point)
-  translation_large point shaped large = shapes_go_on q (clauses_of cert) (Obliged P q cert) (Translation point) shaped (inl (point, large, refl))
+  pub shape_fails : (number : ℕ) → FirstMisshapen (bad_arguments q) (clauses_of cert) number → IsRuledBy numbers P q cert (Shape number)
+  shape_fails number x = shapes_end q (clauses_of cert) (Rights numbers (clauses_of cert) Behind) number x
+
+  pub right_fails : (number : ℕ) → HasShapes q cert → FirstWrong numbers (clauses_of cert) number → IsRuledBy numbers P q cert (Shape number)
+  right_fails number shaped x = shapes_go_on q (clauses_of cert) (Rights numbers (clauses_of cert) Behind) (Shape number) shaped (rights_end numbers (clauses_of cert) Behind number x)
+
+  behind : (ruling : Ruling) → HasRights numbers q cert → Behind ruling → IsRuledBy numbers P q cert ruling
+  behind ruling reached x = shapes_go_on q (clauses_of cert) (Rights numbers (clauses_of cert) Behind) ruling reached.shaped (rights_go_on numbers (clauses_of cert) Behind ruling reached.right x)
+
+  pub translation_large : (point : ℕ) → HasRights numbers q cert → IsTranslation P q (LargeAt point) → IsRuledBy numbers P q cert (Translation point)
+  translation_large point reached large = behind (Translation point) reached (inl (point, large, refl))
+
+  -- all pairs, and the clauses that need goal rows
+  abbrev Pairs : List Pair
+  Pairs = pairs_by (chosen_by numbers) (clauses_of cert) (clauses_of cert)
+
+  abbrev BadOnes : List Numbered
+  BadOnes = resting_bad (rests_by numbers) (clauses_of cert)
 
   -- behind the pairs, and behind the cover rows of the translation
   abbrev BehindPairs : Rest
-  BehindPairs rows ruling = Goals P q (bad_ones (clauses_of cert)) (λ goals. NoneLeft cert rows goals) cert.goals ruling
+  BehindPairs rows ruling = Goals P q BadOnes (λ goals. NoneLeft cert rows goals) cert.goals ruling
 
   abbrev BehindCovers : Rest
-  BehindCovers rows ruling = Closures cert.clauses (pairs_of (clauses_of cert) (clauses_of cert)) BehindPairs rows ruling
+  BehindCovers rows ruling = Closures cert.clauses Pairs BehindPairs rows ruling
 
-  ruled : (given : List (Clause Term)) (ruling : Ruling) → IsTranslatedTo P q cert given → Covers cert.clauses Cover (numbered_from 1 given) BehindCovers cert.rows ruling → IsRuled P q cert ruling
-  ruled given ruling reached x = shapes_go_on q (clauses_of cert) (Obliged P q cert) ruling reached.shaped (inr (given, reached.translated, x))
+  ruled : (given : List (Clause Term)) (ruling : Ruling) → IsTranslatedTo numbers P q cert given → Covers cert.clauses Cover (numbered_from 1 given) BehindCovers cert.rows ruling → IsRuledBy numbers P q cert ruling
+  ruled given ruling reached x = behind ruling reached.rights (inr (given, reached.translated, x))
 
-  pub cover_fails : (given : List (Clause Term)) (number : ℕ) → IsTranslatedTo P q cert given → FirstUnshown (CoverRowHolds cert.clauses) (numbered_from 1 given) cert.rows number → IsRuled P q cert (Cover number)
+  pub cover_fails : (given : List (Clause Term)) (number : ℕ) → IsTranslatedTo numbers P q cert given → FirstUnshown (CoverRowHolds cert.clauses) (numbered_from 1 given) cert.rows number → IsRuledBy numbers P q cert (Cover number)
   cover_fails given number reached x = ruled given (Cover number) reached (covers_end cert.clauses Cover (numbered_from 1 given) BehindCovers cert.rows number x)
 
-  behind_covers : (left : List (List ℕ)) (ruling : Ruling) → HasCovered P q cert left → BehindCovers left ruling → IsRuled P q cert ruling
+  behind_covers : (left : List (List ℕ)) (ruling : Ruling) → HasCovered numbers P q cert left → BehindCovers left ruling → IsRuledBy numbers P q cert ruling
   behind_covers left ruling reached x =
       ruled reached.given ruling reached.translated (covers_go_on cert.clauses Cover (numbered_from 1 reached.given) BehindCovers cert.rows left ruling reached.covered x)
 
-  pub closure_fails : (left : List (List ℕ)) (ruling : Ruling) → HasCovered P q cert left → FirstOpen cert.clauses (pairs_of (clauses_of cert) (clauses_of cert)) left ruling → IsRuled P q cert ruling
-  closure_fails left ruling reached x = behind_covers left ruling reached (closures_end cert.clauses (pairs_of (clauses_of cert) (clauses_of cert)) BehindPairs left ruling x)
+  pub closure_fails : (left : List (List ℕ)) (ruling : Ruling) → HasCovered numbers P q cert left → FirstOpen cert.clauses Pairs left ruling → IsRuledBy numbers P q cert ruling
+  closure_fails left ruling reached x = behind_covers left ruling reached (closures_end cert.clauses Pairs BehindPairs left ruling x)
 
-  behind_pairs : (left : List (List ℕ)) (ruling : Ruling) → HasClosed P q cert left → BehindPairs left ruling → IsRuled P q cert ruling
+  behind_pairs : (left : List (List ℕ)) (ruling : Ruling) → HasClosed numbers P q cert left → BehindPairs left ruling → IsRuledBy numbers P q cert ruling
   behind_pairs left ruling reached x =
-      behind_covers reached.between ruling reached.covered (closures_go_on cert.clauses (pairs_of (clauses_of cert) (clauses_of cert)) BehindPairs reached.between left ruling reached.closed x)
+      behind_covers reached.between ruling reached.covered (closures_go_on cert.clauses Pairs BehindPairs reached.between left ruling reached.closed x)
 
-  pub goal_fails : (left : List (List ℕ)) (number : ℕ) → HasClosed P q cert left → FirstUnshown (GoalHolds P q) (bad_ones (clauses_of cert)) cert.goals number → IsRuled P q cert (Goal number)
-  goal_fails left number reached x = behind_pairs left (Goal number) reached (goals_end P q (bad_ones (clauses_of cert)) (λ goals. NoneLeft cert left goals) cert.goals number x)
+  pub goal_fails : (left : List (List ℕ)) (number : ℕ) → HasClosed numbers P q cert left → FirstUnshown (GoalHolds P q) BadOnes cert.goals number → IsRuledBy numbers P q cert (Goal number)
+  goal_fails left number reached x = behind_pairs left (Goal number) reached (goals_end P q BadOnes (λ goals. NoneLeft cert left goals) cert.goals number x)
 
-  pub all_met : (left goals : List (List ℕ)) (ruling : Ruling) → HasClosed P q cert left → AreShown (GoalHolds P q) (bad_ones (clauses_of cert)) cert.goals goals → NoneLeft cert left goals ruling → IsRuled P q cert ruling
-  all_met left goals ruling reached shown x = behind_pairs left ruling reached (goals_go_on P q (bad_ones (clauses_of cert)) (λ rest. NoneLeft cert left rest) cert.goals goals ruling shown x)
+  pub all_met : (left goals : List (List ℕ)) (ruling : Ruling) → HasClosed numbers P q cert left → AreShown (GoalHolds P q) BadOnes cert.goals goals → NoneLeft cert left goals ruling → IsRuledBy numbers P q cert ruling
+  all_met left goals ruling reached shown x = behind_pairs left ruling reached (goals_go_on P q BadOnes (λ rest. NoneLeft cert left rest) cert.goals goals ruling shown x)

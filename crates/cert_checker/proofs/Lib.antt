@@ -5,3 +5,4 @@ pub mod Proper
 pub mod Sufficing
 pub mod Accepting
 pub mod Standing
+pub mod Choosing

@@ -1,3 +1,4 @@
+pub mod Claimed
 pub mod Reached
 pub mod Rulings
 pub mod Sufficing

@@ -1,16 +1,16 @@
 //! The stages of a check, one after the other.
 
-ghost use Rattle.std.specs.Prelude.{◌≡◌, List, drop, IfOk};
+ghost use Rattle.std.specs.Prelude.{◌≡◌, List, drop, length, IfOk};
 ghost use Rattle.spec_terms.specs.Term.{Term};
 ghost use Rattle.spec_clauses.specs.Fact.{Clause};
 ghost use Rattle.spec_well_formed.specs.Limits.{IsWithinLimits};
 ghost use Rattle.spec_certificates.specs.Certificate.{CoverRowHolds, numbered_from};
-ghost use Rattle.spec_certificates.specs.Ruling.{IsRuled};
+ghost use Rattle.spec_certificates.specs.Ruling.{IsRuledBy};
 ghost use Rattle.pi_tree.specs.Protocols.{protocol_of};
 ghost use Rattle.pi_tree.specs.Accessors.{IsThere};
 ghost use Rattle.pi_tree.specs.declared.accessors.Kind.TheVariants.{Query as OfQueries};
 ghost use Rattle.query_derive.specs.GoalRows.{OfQuery};
-ghost use Rattle.cert_stages.specs.Answers.{IsShownSo};
+ghost use Rattle.cert_stages.specs.Answers.{numbered_at, AreRight, IsShownSo};
 ghost use Rattle.cert_checker.specs.Reached.{IsTranslatedTo, HasCovered, HasClosed};
 ghost use Rattle.cert_checker.specs.Rulings.{ruling_of};
 ghost use Rattle.clause_form.specs.Fit.{AreFit};
@@ -26,12 +26,14 @@ use term_tree::Bank;
 /// What is ruled behind the pairs, where the cover rows before the place were used.
 fn judge_goals<B: Bank>(bank: &B, checker: &Checker<'_>, row: usize) -> Result<Ruling, AllocError>
     requires fit { AreFit (B.trees bank.now) checker.now.clauses.now }
+    requires as_many { length checker.now.numbers.now ≡ length checker.now.clauses.now }
     requires limits { IsWithinLimits (protocol_of checker.now.protocol.now) }
     requires there { IsThere (protocol_of checker.now.protocol.now) OfQueries checker.now.query }
     ensures { let P = protocol_of checker.now.protocol.now in
         let cert = cert_in (B.trees bank.now) checker.now in
         IfOk result (λ ruling. OfQuery P checker.now.query (λ q.
-        HasClosed P q cert (drop row cert.rows) → IsRuled P q cert (ruling_of ruling))) }
+        HasClosed checker.now.numbers.now P q cert (drop row cert.rows) →
+        IsRuledBy checker.now.numbers.now P q cert (ruling_of ruling))) }
 {
     match are_satisfied(bank, checker)? {
         Shown::All(goal) => Ok(left_over(checker, row, goal)),
@@ -46,12 +48,16 @@ fn judge_pairs<B: Bank>(
     row: usize,
 ) -> Result<Ruling, AllocError>
     requires fit { AreFit (B.trees bank.old) checker.now.clauses.now }
+    requires as_many { length checker.now.numbers.now ≡ length checker.now.clauses.now }
+    requires right { AreRight checker.now.numbers.now
+        (numbered_at (B.trees bank.old) checker.now.clauses.now) }
     requires limits { IsWithinLimits (protocol_of checker.now.protocol.now) }
     requires there { IsThere (protocol_of checker.now.protocol.now) OfQueries checker.now.query }
     ensures ruled { let P = protocol_of checker.now.protocol.now in
         let cert = cert_in (B.trees bank.old) checker.now in
         IfOk result (λ ruling. OfQuery P checker.now.query (λ q.
-        HasCovered P q cert (drop row cert.rows) → IsRuled P q cert (ruling_of ruling))) }
+        HasCovered checker.now.numbers.now P q cert (drop row cert.rows) →
+        IsRuledBy checker.now.numbers.now P q cert (ruling_of ruling))) }
     ensures bank { B.trees bank.new ≡ B.trees bank.old }
 {
     match are_closed(bank, checker, row)? {
@@ -67,6 +73,9 @@ pub(crate) fn judge<B: Bank>(
     shown: Shown,
 ) -> Result<Ruling, AllocError>
     requires fit { AreFit (B.trees bank.old) checker.now.clauses.now }
+    requires as_many { length checker.now.numbers.now ≡ length checker.now.clauses.now }
+    requires right { AreRight checker.now.numbers.now
+        (numbered_at (B.trees bank.old) checker.now.clauses.now) }
     requires limits { IsWithinLimits (protocol_of checker.now.protocol.now) }
     requires there { IsThere (protocol_of checker.now.protocol.now) OfQueries checker.now.query }
     ensures ruled { let P = protocol_of checker.now.protocol.now in
@@ -74,7 +83,8 @@ pub(crate) fn judge<B: Bank>(
         (given : List (Clause Term)) →
         IsShownSo (CoverRowHolds cert.clauses) (numbered_from 1 given) cert.rows 0 shown →
         IfOk result (λ ruling. OfQuery P checker.now.query (λ q.
-        IsTranslatedTo P q cert given → IsRuled P q cert (ruling_of ruling))) }
+        IsTranslatedTo checker.now.numbers.now P q cert given →
+        IsRuledBy checker.now.numbers.now P q cert (ruling_of ruling))) }
     ensures bank { B.trees bank.new ≡ B.trees bank.old }
 {
     match shown {

@@ -6,5 +6,6 @@ pub mod Pairing
 pub mod CoverRows
 pub mod Looking
 pub mod Lowered
+pub mod Numbers
 pub mod UnsolvedOnes
 pub mod Passing

@@ -1,9 +1,11 @@
 -- What is answered of each stage.
-use Rattle.std.specs.Prelude.{ℕ, ◌+◌, Option, Some, None, List, [], drop, slice_get, flat_map}
+use Rattle.std.specs.Prelude.{◌≡◌, ◌⊎◌, ℕ, ◌+◌, Bool, Option, Some, None, List, [], ◌∷◌, drop, slice_get, flat_map}
+use Rattle.std.specs.List.{AllByRecursion}
 use Rattle.spec_terms.specs.Term.{Term}
 use Rattle.spec_clauses.specs.Fact.{Clause}
-use Rattle.spec_clauses.specs.Selection.{select}
-use Rattle.spec_certificates.specs.Certificate.{Numbered, numbered_from, Pair, pairs_with, pairs_of_solved}
+use Rattle.spec_clauses.specs.Selection.{Selection}
+use Rattle.spec_derivations.specs.Choice.{IsRight}
+use Rattle.spec_certificates.specs.Certificate.{Numbered, numbered_from, number_beside, by_numbers, Pair, pairs_with, pairs_of_resting}
 use Rattle.spec_certificates.specs.Ruling.{Ruling, Closure}
 use Rattle.clause_form.specs.Fit.{clauses_at}
 use Rattle.clause_form.specs.Seen.{IdClause}
@@ -37,25 +39,45 @@ abbrev pub where_shown : ℕ → ℕ → shown.Shown → closed.Closed
 where_shown i j (shown_so.All next) = closed_so.All next
 where_shown i j (shown_so.Except number) = closed_so.Except (record { solved = i + 1; unsolved = j + 1; resolvent = number })
 
--- the pair of two clauses, if the second is unsolved; of a clause with all; of a clause, if it is solved, with all
-abbrev pub pairs_of_two : Option Numbered → Option Numbered → List Pair
-pairs_of_two (Some i) (Some j) = pairs_with i (select j.clause.hypotheses) j
-pairs_of_two i j = []
+-- of numbers beside clauses, whether one rests, what is chosen of each, and that all are right
+abbrev pub rests_by : List ℕ → Numbered → Bool
+rests_by numbers = (by_numbers numbers).rests
 
-abbrev pub pairs_with_all : Option Numbered → List Numbered → List Pair
-pairs_with_all (Some i) all = flat_map (λ j. pairs_with i (select j.clause.hypotheses) j) all
-pairs_with_all None all = []
+abbrev pub chosen_by : List ℕ → Numbered → Option Selection
+chosen_by numbers = (by_numbers numbers).chosen
 
-abbrev pub pairs_if_solved : Option Numbered → List Numbered → List Pair
-pairs_if_solved (Some i) all = pairs_of_solved (select i.clause.hypotheses) i all
-pairs_if_solved None all = []
+abbrev pub AreRight : List ℕ → List Numbered → Type 0
+AreRight numbers cs = AllByRecursion (λ c. IsRight c.clause (number_beside numbers c)) cs
+
+-- they are, or the clause of that number is the first of which it isn't
+abbrev pub FirstWrong : List ℕ → List Numbered → ℕ → Type 0
+FirstWrong numbers [] number = ⊥
+FirstWrong numbers (c ∷ cs) number =
+    ((IsRight c.clause (number_beside numbers c) → ⊥) × (number ≡ c.number)) ⊎ (IsRight c.clause (number_beside numbers c) × FirstWrong numbers cs number)
+
+abbrev pub AreRightSo : List ℕ → List Numbered → Option ℕ → Type 0
+AreRightSo numbers cs None = AreRight numbers cs
+AreRightSo numbers cs (Some number) = FirstWrong numbers cs number
+
+-- the pair of two clauses, if a hypothesis of the second is chosen; of a clause with all; of a clause, if it rests, with all
+abbrev pub pairs_of_two : (Numbered → Option Selection) → Option Numbered → Option Numbered → List Pair
+pairs_of_two chosen (Some i) (Some j) = pairs_with i (chosen j) j
+pairs_of_two chosen i j = []
+
+abbrev pub pairs_with_all : (Numbered → Option Selection) → Option Numbered → List Numbered → List Pair
+pairs_with_all chosen (Some i) all = flat_map (λ j. pairs_with i (chosen j) j) all
+pairs_with_all chosen None all = []
+
+abbrev pub pairs_if_resting : (Numbered → Option Selection) → Option Numbered → List Numbered → List Pair
+pairs_if_resting chosen (Some i) all = pairs_of_resting chosen (chosen i) i all
+pairs_if_resting chosen None all = []
 
 -- of clauses with their numbers, the pair of the ones at these places, and the pairs of the one at this place
-abbrev pub pair_at : List Numbered → ℕ → ℕ → List Pair
-pair_at all i j = pairs_of_two (slice_get all i) (slice_get all j)
+abbrev pub pair_at : (Numbered → Option Selection) → List Numbered → ℕ → ℕ → List Pair
+pair_at chosen all i j = pairs_of_two chosen (slice_get all i) (slice_get all j)
 
-abbrev pub pairs_at : List Numbered → ℕ → List Pair
-pairs_at all i = pairs_with_all (slice_get all i) all
+abbrev pub pairs_at : (Numbered → Option Selection) → List Numbered → ℕ → List Pair
+pairs_at chosen all i = pairs_with_all chosen (slice_get all i) all
 
-abbrev pub pairs_at_solved : List Numbered → ℕ → List Pair
-pairs_at_solved all i = pairs_if_solved (slice_get all i) all
+abbrev pub pairs_at_resting : (Numbered → Option Selection) → List Numbered → ℕ → List Pair
+pairs_at_resting chosen all i = pairs_if_resting chosen (slice_get all i) all

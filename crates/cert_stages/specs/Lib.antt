@@ -5,3 +5,4 @@ pub mod Checked
 pub mod Shaping
 pub mod Lowering
 pub mod Unsolved
+pub mod Numbers

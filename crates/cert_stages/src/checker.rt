@@ -5,7 +5,8 @@ use clause_form::Clause;
 use pi_tree::Protocol;
 use std::alloc::Global;
 
-/// A certificate under check: of which query of which protocol, its rows, and its clauses over a bank, in their order.
+/// A certificate under check: of which query of which protocol, its rows, its clauses over a bank, in their order, and the numbers
+/// beside these, which say what is chosen of each.
 #[derive(Drop)]
 pub struct Checker<'a> {
     pub alloc: Global,
@@ -14,4 +15,5 @@ pub struct Checker<'a> {
     pub rows: &'a Rows,
     pub goals: &'a Rows,
     pub clauses: &'a [Clause],
+    pub numbers: &'a [usize],
 }

@@ -1,27 +1,28 @@
-//! Pairs of a solved clause with an unsolved one: each resolvent is covered by the next row.
+//! Pairs of a clause that rests, called solved, with one of which a hypothesis is chosen, called unsolved: each resolvent is covered by
+//! the next row.
 
-ghost use Rattle.std.specs.Prelude.{◌≡◌, ◌<◌, ◌+◌, ◌^◌, Some, length, map, slice_get, option_map, IfOk};
-ghost use Rattle.spec_fingerprints.specs.Fingerprints.{fingerprint_of, hypothesis_print};
-ghost use Rattle.clause_resolve.specs.Apart.{IsSelectedAt};
+ghost use Rattle.std.specs.Prelude.{◌≡◌, ◌<◌, ◌+◌, ◌^◌, suc, Some, length, map, slice_get, IfOk};
+ghost use Rattle.std.specs.List.{AllByRecursion};
+ghost use Rattle.spec_fingerprints.specs.Fingerprints.{fingerprint_of};
 ghost use Rattle.fact_fingerprint.specs.Seen.{fingerprint_seen};
 ghost use Rattle.clause_form.specs.Seen.{clause_at, IdClause};
 ghost use Rattle.cert_stages.specs.declared.shown.Shown.TheVariants as shown_so;
 ghost use Rattle.clause_form.specs.Fit.{AreFit, clauses_at};
-ghost use Rattle.cert_stages.specs.Answers.{numbered_at, where_shown};
-ghost use Rattle.cert_stages.specs.Answers.{IsClosedSo, pair_at, pairs_at, pairs_at_solved};
-ghost use Rattle.cert_stages.specs.Unsolved.{unsolved_from};
+ghost use Rattle.cert_stages.specs.Answers.{numbered_at, where_shown, chosen_by, AreRight};
+ghost use Rattle.cert_stages.specs.Answers.{IsClosedSo, pair_at, pairs_at, pairs_at_resting};
+ghost use Rattle.cert_stages.specs.Unsolved.{unsolved_from, places_of, IsUnsolvedOne};
 
 use crate::checker::Checker;
+use crate::choosing::number_at;
 use crate::covering::are_covered;
 use crate::shown::{Closed, OpenPair, Shown};
 use crate::unsolved::Unsolved;
-use clause_resolve::{Resolved, resolvents};
-use fact_fingerprint::{Fingerprint, conclusion_fingerprint, may_resolve};
-use literal_selection::is_solved;
+use clause_resolve::{Resolved, resolvents_at};
+use fact_fingerprint::{Fingerprint, conclusion_fingerprint, may_meet};
 use std::alloc::AllocError;
 use term_tree::Bank;
 
-/// The places, from 0, of a solved clause and of an unsolved one.
+/// The places, from 0, of a clause that rests and of one of which a hypothesis is chosen.
 #[derive(Clone, Copy)]
 pub(crate) struct Pair {
     pub solved: usize,
@@ -63,20 +64,22 @@ fn close_pair<B: Bank>(
     from: usize,
 ) -> Result<Closed, AllocError>
     requires fit { AreFit (B.trees bank.old) checker.now.clauses.now }
+    requires right { AreRight checker.now.numbers.now
+        (numbered_at (B.trees bank.old) checker.now.clauses.now) }
     requires solved { pair.solved < length checker.now.clauses.now }
     requires unsolved { pair.unsolved < length checker.now.clauses.now }
-    requires selected { (c : IdClause) → slice_get checker.now.clauses.now pair.unsolved ≡ Some c →
-        IsSelectedAt (clause_at (B.trees bank.old) c) at }
+    requires chosen { slice_get checker.now.numbers.now pair.unsolved ≡ Some (suc at) }
     ensures closed { let all = B.trees bank.old in IfOk result (λ closed.
         IsClosedSo (clauses_at all checker.now.clauses.now)
-        (pair_at (numbered_at all checker.now.clauses.now) pair.solved pair.unsolved)
+        (pair_at (chosen_by checker.now.numbers.now)
+        (numbered_at all checker.now.clauses.now) pair.solved pair.unsolved)
         checker.now.rows.now from closed) }
     ensures bank { B.trees bank.new ≡ B.trees bank.old }
 {
     let mark = bank.mark();
     let solved = &checker.clauses[pair.solved];
     let unsolved = &checker.clauses[pair.unsolved];
-    match resolvents(checker.alloc, bank, solved, unsolved, at)? {
+    match resolvents_at(checker.alloc, bank, solved, unsolved, at)? {
         Resolved::NoUnifier => Ok(Closed::All(from)),
         Resolved::Large => Ok(uncovered(pair, 0)),
         Resolved::Clauses(made) => {
@@ -88,42 +91,40 @@ fn close_pair<B: Bank>(
     }
 }
 
-/// A solved clause by its place and the fingerprint of its conclusion, and the fingerprints of the selected hypotheses of all
-/// clauses.
+/// A clause that rests, by its place and the fingerprint of its conclusion.
 #[derive(Clone, Copy)]
-pub(crate) struct Solving<'a> {
+pub(crate) struct Solving {
     pub solved: usize,
     pub print: Fingerprint,
-    pub prints: &'a [Option<Fingerprint>],
 }
 
-/// Whether the resolvents of a solved clause with an unsolved one are covered by the rows from a place on. Where fingerprints
-/// tell that there is no unifier, no row is used. The bank is as before.
+/// Whether the resolvents of a clause that rests with another are covered by the rows from a place on. Where fingerprints tell
+/// that there is no unifier, no row is used. The bank is as before.
 fn close_met<B: Bank>(
     bank: &mut B,
     checker: &Checker<'_>,
-    solving: &Solving<'_>,
-    one: Unsolved,
+    solving: &Solving,
+    one: &Unsolved,
     from: usize,
 ) -> Result<Closed, AllocError>
     requires fit { AreFit (B.trees bank.old) checker.now.clauses.now }
+    requires right { AreRight checker.now.numbers.now
+        (numbered_at (B.trees bank.old) checker.now.clauses.now) }
     requires solved { solving.now.solved < length checker.now.clauses.now }
-    requires unsolved { one.place < length checker.now.clauses.now }
-    requires selected { (c : IdClause) → slice_get checker.now.clauses.now one.place ≡ Some c →
-        IsSelectedAt (clause_at (B.trees bank.old) c) one.at }
+    requires unsolved { IsUnsolvedOne (B.trees bank.old) checker.now.clauses.now
+        checker.now.numbers.now one.now }
     requires print { (c : IdClause) →
         slice_get checker.now.clauses.now solving.now.solved ≡ Some c →
         fingerprint_seen solving.now.print ≡
         fingerprint_of (clause_at (B.trees bank.old) c).conclusion }
-    requires prints { map (option_map fingerprint_seen) solving.now.prints.now ≡
-        map hypothesis_print (clauses_at (B.trees bank.old) checker.now.clauses.now) }
     ensures closed { let all = B.trees bank.old in IfOk result (λ closed.
         IsClosedSo (clauses_at all checker.now.clauses.now)
-        (pair_at (numbered_at all checker.now.clauses.now) solving.now.solved one.place)
+        (pair_at (chosen_by checker.now.numbers.now)
+        (numbered_at all checker.now.clauses.now) solving.now.solved one.now.place)
         checker.now.rows.now from closed) }
     ensures bank { B.trees bank.new ≡ B.trees bank.old }
 {
-    if !may_resolve(&solving.print, &solving.prints[one.place]) {
+    if !may_meet(&solving.print, &one.print) {
         return Ok(Closed::All(from));
     }
     let pair = Pair {
@@ -133,41 +134,36 @@ fn close_met<B: Bank>(
     close_pair(bank, checker, pair, one.at, from)
 }
 
-/// The unsolved clauses, and the fingerprints of the selected hypotheses of all clauses.
-#[derive(Clone, Copy)]
-pub struct Partners<'a> {
-    pub unsolved: &'a [Unsolved],
-    pub prints: &'a [Option<Fingerprint>],
-}
-
-/// Whether the resolvents of a solved clause with each unsolved one are covered. The bank is as before.
+/// Whether the resolvents of a clause that rests with each other one are covered. The bank is as before.
 fn close_solved<B: Bank>(
     bank: &mut B,
     checker: &Checker<'_>,
     solved: usize,
-    partners: &Partners<'_>,
+    unsolved: &[Unsolved],
     from: usize,
 ) -> Result<Closed, AllocError>
     requires fit { AreFit (B.trees bank.old) checker.now.clauses.now }
+    requires as_many { length checker.now.numbers.now ≡ length checker.now.clauses.now }
+    requires right { AreRight checker.now.numbers.now
+        (numbered_at (B.trees bank.old) checker.now.clauses.now) }
     requires solved { solved < length checker.now.clauses.now }
-    requires unsolved { partners.now.unsolved.now ≡ unsolved_from 0
-        (clauses_at (B.trees bank.old) checker.now.clauses.now) }
-    requires prints { map (option_map fingerprint_seen) partners.now.prints.now ≡
-        map hypothesis_print (clauses_at (B.trees bank.old) checker.now.clauses.now) }
+    requires places { map places_of unsolved.now ≡ unsolved_from 0 checker.now.numbers.now }
+    requires each { AllByRecursion (IsUnsolvedOne (B.trees bank.old)
+        checker.now.clauses.now checker.now.numbers.now) unsolved.now }
     ensures closed { let all = B.trees bank.old in IfOk result (λ closed.
         IsClosedSo (clauses_at all checker.now.clauses.now)
-        (pairs_at (numbered_at all checker.now.clauses.now) solved)
+        (pairs_at (chosen_by checker.now.numbers.now)
+        (numbered_at all checker.now.clauses.now) solved)
         checker.now.rows.now from closed) }
     ensures bank { B.trees bank.new ≡ B.trees bank.old }
 {
     let solving = Solving {
         solved,
         print: conclusion_fingerprint(bank, &checker.clauses[solved]),
-        prints: partners.prints,
     };
     let mut next = from;
-    'each: for one in partners.unsolved {
-        match close_met(bank, checker, &solving, *one, next)? {
+    'each: for one in unsolved {
+        match close_met(bank, checker, &solving, one, next)? {
             Closed::All(left) => next = left,
             Closed::Except(pair) => return Ok(Closed::Except(pair)),
         }
@@ -175,29 +171,32 @@ fn close_solved<B: Bank>(
     Ok(Closed::All(next))
 }
 
-/// Whether the resolvents of a clause with each unsolved one are covered, where it is solved; where it isn't, no row is used. The
-/// bank is as before.
+/// Whether the resolvents of a clause with each of which a hypothesis is chosen are covered, where it rests; where it doesn't, no
+/// row is used. The bank is as before.
 pub fn close_one<B: Bank>(
     bank: &mut B,
     checker: &Checker<'_>,
     solved: usize,
-    partners: &Partners<'_>,
+    unsolved: &[Unsolved],
     from: usize,
 ) -> Result<Closed, AllocError>
     requires fit { AreFit (B.trees bank.old) checker.now.clauses.now }
+    requires as_many { length checker.now.numbers.now ≡ length checker.now.clauses.now }
+    requires right { AreRight checker.now.numbers.now
+        (numbered_at (B.trees bank.old) checker.now.clauses.now) }
     requires solved { solved < length checker.now.clauses.now }
-    requires unsolved { partners.now.unsolved.now ≡ unsolved_from 0
-        (clauses_at (B.trees bank.old) checker.now.clauses.now) }
-    requires prints { map (option_map fingerprint_seen) partners.now.prints.now ≡
-        map hypothesis_print (clauses_at (B.trees bank.old) checker.now.clauses.now) }
+    requires places { map places_of unsolved.now ≡ unsolved_from 0 checker.now.numbers.now }
+    requires each { AllByRecursion (IsUnsolvedOne (B.trees bank.old)
+        checker.now.clauses.now checker.now.numbers.now) unsolved.now }
     ensures closed { let all = B.trees bank.old in IfOk result (λ closed.
         IsClosedSo (clauses_at all checker.now.clauses.now)
-        (pairs_at_solved (numbered_at all checker.now.clauses.now) solved)
+        (pairs_at_resting (chosen_by checker.now.numbers.now)
+        (numbered_at all checker.now.clauses.now) solved)
         checker.now.rows.now from closed) }
     ensures bank { B.trees bank.new ≡ B.trees bank.old }
 {
-    if !is_solved(bank, &checker.clauses[solved]) {
+    if number_at(checker, solved) > 0 {
         return Ok(Closed::All(from));
     }
-    close_solved(bank, checker, solved, partners, from)
+    close_solved(bank, checker, solved, unsolved, from)
 }

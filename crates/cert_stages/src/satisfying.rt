@@ -1,9 +1,10 @@
 //! Goal rows: each says which alternative a clause that concludes `bad` satisfies, and by which positions.
 
-ghost use Rattle.std.specs.Prelude.{◌≡◌, ◌↔◌, ◌<◌, ◌+◌, ◌^◌, ◌∷◌, IsTrue, drop, IfOk};
+ghost use Rattle.std.specs.Prelude.{◌≡◌, ◌↔◌, ◌<◌, ◌+◌, ◌^◌, ◌∷◌, ◌&&◌, IsTrue, nat_eq, drop, length, IfOk};
 ghost use Rattle.spec_well_formed.specs.Limits.{IsWithinLimits};
+ghost use Rattle.spec_translation.specs.Satisfied.{is_bad as is_bad_fact};
 ghost use Rattle.spec_certificates.specs.Certificate.{GoalHolds};
-ghost use Rattle.spec_certificates.specs.Ruling.{bad_ones};
+ghost use Rattle.spec_certificates.specs.Ruling.{resting_bad};
 ghost use Rattle.pi_tree.specs.Protocols.{protocol_of};
 ghost use Rattle.pi_tree.specs.Accessors.{IsThere};
 ghost use Rattle.pi_tree.specs.declared.accessors.Kind.TheVariants.{Query as OfQueries};
@@ -11,12 +12,13 @@ ghost use Rattle.clause_form.specs.Seen.{clause_at, IsClauseIn};
 ghost use Rattle.query_derive.specs.GoalRows.{OfQuery};
 ghost use Rattle.cert_stages.specs.Stages.{NextShows};
 ghost use Rattle.clause_form.specs.Fit.{AreFit};
-ghost use Rattle.cert_stages.specs.Answers.{numbered_at, IsShownSo};
+ghost use Rattle.cert_stages.specs.Answers.{numbered_at, rests_by, IsShownSo};
 
 use crate::checker::Checker;
+use crate::choosing::number_at;
 use crate::shown::Shown;
 use clause_form::Clause;
-use literal_selection::is_solved_goal;
+use literal_selection::is_bad;
 use query_derive::{Positions, QueryRow, query_row_holds};
 use std::alloc::AllocError;
 use term_tree::Bank;
@@ -97,19 +99,30 @@ fn next_satisfies<B: Bank>(
     }
 }
 
-/// Whether each solved clause that concludes `bad` is satisfied, by the goal rows in order.
+/// Whether a clause with that number beside it rests, and concludes `bad`: then a goal row has to show that it satisfies the query.
+fn is_due<B: Bank>(bank: &B, clause: &Clause, number: usize) -> bool
+    ensures { result ≡ (nat_eq number 0 &&
+        is_bad_fact (clause_at (B.trees bank.now) clause.now).conclusion) }
+{
+    number == 0 && is_bad(bank, &clause.concl)
+}
+
+/// Whether each clause that rests and concludes `bad` is satisfied, by the goal rows in order.
 pub fn are_satisfied<B: Bank>(bank: &B, checker: &Checker<'_>) -> Result<Shown, AllocError>
     requires fit { AreFit (B.trees bank.now) checker.now.clauses.now }
+    requires as_many { length checker.now.numbers.now ≡ length checker.now.clauses.now }
     requires limits { IsWithinLimits (protocol_of checker.now.protocol.now) }
     requires there { IsThere (protocol_of checker.now.protocol.now) OfQueries checker.now.query }
     ensures { let P = protocol_of checker.now.protocol.now in
         IfOk result (λ shown. OfQuery P checker.now.query (λ q. IsShownSo (GoalHolds P q)
-        (bad_ones (numbered_at (B.trees bank.now) checker.now.clauses.now))
+        (resting_bad (rests_by checker.now.numbers.now)
+        (numbered_at (B.trees bank.now) checker.now.clauses.now))
         checker.now.goals.now 0 shown)) }
 {
     let mut next = 0usize;
     'each: for (k, clause) in checker.clauses.iter().enumerate() {
-        if is_solved_goal(bank, clause) {
+        let number = number_at(checker, k);
+        if is_due(bank, clause, number) {
             if !next_satisfies(bank, checker, next, clause)? {
                 return Ok(Shown::Except(k as u64 + 1));
             }

@@ -1,5 +1,5 @@
 -- From raw clauses to the answer of a pair.
-use Rattle.std.proofs.Common.{◌≡◌, ℕ, ◌<◌, ◌≤◌, Some, Result, Ok, Err, IfOk, List, ◌++◌, length, map, flat_map, take, get_or, refl, ap, sym, ◌∙◌, subst, arith}
+use Rattle.std.proofs.Common.{◌≡◌, ℕ, ◌<◌, ◌≤◌, Option, Some, Result, Ok, Err, IfOk, List, ◌++◌, length, map, flat_map, take, get_or, refl, ap, sym, ◌∙◌, subst, arith}
 use Rattle.std.specs.declared.alloc.AllocError.{AllocError}
 use Rattle.std.proofs.lemmas.List.{map-append}
 use Rattle.spec_trees.specs.Tree.{after}
@@ -8,7 +8,7 @@ use Rattle.spec_terms.specs.Unifier.{moved, IsMostGeneral}
 use Rattle.spec_calculus.specs.Bounds.{most_symbols}
 use Rattle.spec_clauses.specs.Fact.{Fact, Clause, terms_of, clause_size, fact_under, clause_under}
 use Rattle.spec_clauses.specs.Variables.{IsBelow, AreBelow, all_terms}
-use Rattle.spec_clauses.specs.Selection.{Selection, select}
+use Rattle.spec_clauses.specs.Selection.{Selection}
 use Rattle.spec_clauses.specs.Norm.{norms, IsNormal}
 use Rattle.spec_clauses.specs.Limits.{IsWithinLimit}
 use Rattle.spec_clauses.specs.Resolvents.{joined, IsRawResolvent}
@@ -17,6 +17,7 @@ use Rattle.spec_clauses.proofs.Lists.{all_append, all_first, all_weaker}
 use Rattle.spec_clauses.proofs.Facts.{fact_under-fact_under}
 use Rattle.spec_clauses.proofs.NormNumbers.{norm-below}
 use Rattle.spec_clauses.proofs.Answers.{no_unifier, large_answer, clauses_answer}
+use Rattle.spec_derivations.specs.Choice.{at_place}
 use Rattle.term_tree.specs.Bank.{Grows}
 use Rattle.term_tree.specs.declared.bank.Id.{Id}
 use Rattle.term_tree.proofs.BankLaws.{Grows_same, take-grows}
@@ -35,12 +36,12 @@ use Rattle.clause_resolve.specs.declared.resolving.Resolved.{Resolved}
 use Rattle.clause_resolve.specs.declared.resolving.Resolved.TheVariants.{NoUnifier, Large, Clauses}
 use Rattle.clause_resolve.specs.Meeting.{IsMguOfFacts, HaveNoUnifier, NeverMeet}
 use Rattle.clause_resolve.specs.Low.{bound_from, AreDiffsBelow, KeepsBelow}
-use Rattle.clause_resolve.specs.Apart.{IsSelectedAt, IsApart}
+use Rattle.clause_resolve.specs.Apart.{IsSelectedAt, IsHypothesisAt, IsApartOf}
 use Rattle.clause_resolve.proofs.Low.{below_more, low_terms, unifier_keeps}
-use Rattle.clause_resolve.proofs.Shifting.{placed}
+use Rattle.clause_resolve.proofs.Shifting.{placed, place_selected}
 use Rattle.clause_resolve.proofs.SpendingLaws.{standing}
 use Rattle.clause_resolve.specs.Joining.{together, IsFoundOf}
-use Rattle.clause_resolve.specs.Answers.{Gives, IsAnswerOf}
+use Rattle.clause_resolve.specs.Answers.{GivesOf, IsAnswerFor, IsAnswerOf, IsAnswerAt}
 
 -- a clause that is its own norm within the limit
 pub normal_low : (c : Clause Term) → IsNormal c → IsWithinLimit c → AreBelow most_symbols (all_terms c)
@@ -65,7 +66,7 @@ together_at all solved rest =
     let diffs = map-append (diff_at all) solved.diffs rest.diffs in
     λ i. record { hypotheses = hypotheses i; diffs = diffs i; conclusion = fact_at all rest.conclusion }
 
-pub together_is : (all : List Term) (solved : IdClause) (unsolved : Clause Term) (apart : Apart) (a : IsApart all unsolved apart) → clause_at all (together solved apart.rest) ≡ joined most_symbols (clause_at all solved) unsolved a.at
+pub together_is : {chosen : Option Selection} (all : List Term) (solved : IdClause) (unsolved : Clause Term) (apart : Apart) (a : IsApartOf chosen all unsolved apart) → clause_at all (together solved apart.rest) ≡ joined most_symbols (clause_at all solved) unsolved a.at
 together_is all solved unsolved apart a = together_at all solved apart.rest ∙ ap (together (clause_at all solved)) a.rest.is
 
 -- the constraints of a clause of low variables and of one that is set apart
@@ -98,7 +99,7 @@ other_pair_keeps all pairs k f c k_is ready raised low mgu =
 abbrev pub meet : List Term → IdClause → Apart → Subst → Type 0
 meet all solved apart s = IsMguOfFacts (fact_at all solved.conclusion) (fact_at all (fact_of apart.selected)) s
 
-raw_resolvent : (all : List Term) (solved : IdClause) (unsolved : Clause Term) (apart : Apart) (s : Subst) (a : IsApart all unsolved apart) → HasLowVariables all solved → meet all solved apart s
+raw_resolvent : {chosen : Option Selection} (all : List Term) (solved : IdClause) (unsolved : Clause Term) (apart : Apart) (s : Subst) (a : IsApartOf chosen all unsolved apart) → HasLowVariables all solved → meet all solved apart s
     → IsRawResolvent (clause_at all solved) unsolved a.at (Some (clause_under s (clause_at all (together solved apart.rest))))
 raw_resolvent all solved unsolved apart s a low mgu = record {
   offset = most_symbols;
@@ -111,23 +112,23 @@ raw_resolvent all solved unsolved apart s a low mgu = record {
 }
 
 -- what was found of a raw resolvent of the pair is its answer
-pub found_answers : (new : List Term) (solved unsolved raw : Clause Term) (at : Selection) (found : Resolved) → select unsolved.hypotheses ≡ Some at → IsRawResolvent solved unsolved at (Some raw) → IsFoundOf new raw found → IsAnswerOf new solved unsolved found
+pub found_answers : {chosen : Option Selection} (new : List Term) (solved unsolved raw : Clause Term) (at : Selection) (found : Resolved) → chosen ≡ Some at → IsRawResolvent solved unsolved at (Some raw) → IsFoundOf new raw found → IsAnswerFor chosen new solved unsolved found
 found_answers new solved unsolved raw at NoUnifier selected resolvent h = absurd h
 found_answers new solved unsolved raw at Large selected resolvent h = record { at = at; is_selected = selected; gives = large_answer solved unsolved raw at resolvent h }
 found_answers new solved unsolved raw at (Clauses cs) selected resolvent h = (norms raw, h.1, record { at = at; is_selected = selected; gives = clauses_answer solved unsolved raw at resolvent h.0 })
 
-pub answered : (old new : List Term) (solved together_made : IdClause) (unsolved : Clause Term) (apart : Apart) (s : Subst) (found : Resolved) → together_made ≡ together solved apart.rest → IsApart old unsolved apart → HasLowVariables old solved → meet old solved apart s
-    → IsFoundOf new (clause_under s (clause_at old together_made)) found → IsAnswerOf new (clause_at old solved) unsolved found
+pub answered : {chosen : Option Selection} (old new : List Term) (solved together_made : IdClause) (unsolved : Clause Term) (apart : Apart) (s : Subst) (found : Resolved) → together_made ≡ together solved apart.rest → IsApartOf chosen old unsolved apart → HasLowVariables old solved → meet old solved apart s
+    → IsFoundOf new (clause_under s (clause_at old together_made)) found → IsAnswerFor chosen new (clause_at old solved) unsolved found
 answered old new solved together_made unsolved apart s found e a low mgu made =
     found_answers new (clause_at old solved) unsolved (clause_under s (clause_at old (together solved apart.rest))) a.at found a.is_selected (raw_resolvent old solved unsolved apart s a low mgu) (subst (λ (c : IdClause). IsFoundOf new (clause_under s (clause_at old c)) found) e made)
 
-pub answered_result : (old new : List Term) (solved together_made : IdClause) (k : Fact Id) (unsolved : Clause Term) (apart : Apart) (s : Subst) (r : Result Resolved AllocError) → k ≡ solved.conclusion → together_made ≡ together solved apart.rest → HasLowVariables old solved
-    → IsMguOfFacts (fact_at old k) (fact_at old (fact_of apart.selected)) s → IfOk r (λ found. IsFoundOf new (clause_under s (clause_at old together_made)) found) → IsApart old unsolved apart → IfOk r (λ found. IsAnswerOf new (clause_at old solved) unsolved found)
+pub answered_result : {chosen : Option Selection} (old new : List Term) (solved together_made : IdClause) (k : Fact Id) (unsolved : Clause Term) (apart : Apart) (s : Subst) (r : Result Resolved AllocError) → k ≡ solved.conclusion → together_made ≡ together solved apart.rest → HasLowVariables old solved
+    → IsMguOfFacts (fact_at old k) (fact_at old (fact_of apart.selected)) s → IfOk r (λ found. IsFoundOf new (clause_under s (clause_at old together_made)) found) → IsApartOf chosen old unsolved apart → IfOk r (λ found. IsAnswerFor chosen new (clause_at old solved) unsolved found)
 answered_result old new solved together_made k unsolved apart s (Ok found) k_is e low mgu made a = answered old new solved together_made unsolved apart s found e a low (subst (λ (f : Fact Id). IsMguOfFacts (fact_at old f) (fact_at old (fact_of apart.selected)) s) k_is mgu) made
 answered_result old new solved together_made k unsolved apart s (Err failed) k_is e low mgu made a = tt
 
 -- nothing unifies them
-pub unanswered : (all : List Term) (solved : IdClause) (k : Fact Id) (unsolved : Clause Term) (apart : Apart) → k ≡ solved.conclusion → IsApart all unsolved apart → HasLowVariables all solved → HaveNoUnifier (fact_at all k) (fact_at all (fact_of apart.selected)) → Gives (clause_at all solved) unsolved answer.NoUnifier
+pub unanswered : {chosen : Option Selection} (all : List Term) (solved : IdClause) (k : Fact Id) (unsolved : Clause Term) (apart : Apart) → k ≡ solved.conclusion → IsApartOf chosen all unsolved apart → HasLowVariables all solved → HaveNoUnifier (fact_at all k) (fact_at all (fact_of apart.selected)) → GivesOf chosen (clause_at all solved) unsolved answer.NoUnifier
 unanswered all solved k unsolved apart k_is a low never = record {
   at = a.at;
   is_selected = a.is_selected;
@@ -138,8 +139,8 @@ unanswered all solved k unsolved apart k_is a low never = record {
   };
 }
 
--- the conclusion and the selected hypothesis that never meet
-pub clashing : (solved unsolved : Clause Term) (at : ℕ) (k f : Fact Term) → k ≡ solved.conclusion → IsSelectedAt unsolved at → AreBelow most_symbols (all_terms solved) → f ≡ get_or unsolved.hypotheses at f → NeverMeet k f → Gives solved unsolved answer.NoUnifier
+-- the conclusion and the hypothesis at a place that never meet
+pub clashing : (solved unsolved : Clause Term) (at : ℕ) (k f : Fact Term) → k ≡ solved.conclusion → IsHypothesisAt unsolved at → AreBelow most_symbols (all_terms solved) → f ≡ get_or unsolved.hypotheses at f → NeverMeet k f → GivesOf (at_place unsolved.hypotheses at) solved unsolved answer.NoUnifier
 clashing solved unsolved at k f k_is place low is never =
     let p = placed unsolved at place in
     let same : f ≡ p.selection.fact = is ∙ p.fact f in
@@ -152,6 +153,11 @@ clashing solved unsolved at k f k_is place low is never =
         unified = λ s e. never s (after s (moved most_symbols)) (ap (fact_under s) k_is ∙ (e ∙ (fact_under-fact_under s (moved most_symbols) p.selection.fact ∙ ap (fact_under (after s (moved most_symbols))) (sym same))));
       };
     }
+
+-- where that one is selected, the answer there is the pair's
+pub answer_selected : (all : List Term) (solved unsolved : Clause Term) (at : ℕ) (r : Result Resolved AllocError) → IsSelectedAt unsolved at → IfOk r (λ found. IsAnswerAt at all solved unsolved found) → IfOk r (λ found. IsAnswerOf all solved unsolved found)
+answer_selected all solved unsolved at r selected answer =
+    subst (λ (chosen : Option Selection). IfOk r (λ found. IsAnswerFor chosen all solved unsolved found)) (place_selected unsolved at selected).1 answer
 
 -- a clause in a bank that grew
 pub IsClauseIn-later : (a b : List Term) (c : IdClause) → Grows a b → IsClauseIn a c → IsClauseIn b c

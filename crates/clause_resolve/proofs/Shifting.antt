@@ -1,5 +1,5 @@
 -- Terms, facts and clauses of a bank set apart.
-use Rattle.std.proofs.Common.{◌≡◌, ℕ, zero, suc, ◌+◌, ◌<◌, inl, inr, true, IsTrue, nat_eq, Option, Some, None, List, [], ◌∷◌, ◌++◌, length, map, flat_map, take, drop, get_or, refl, ap, sym, ◌∙◌, subst, eqb-true, arith, length-append}
+use Rattle.std.proofs.Common.{◌≡◌, ℕ, zero, suc, ◌+◌, ◌<◌, inl, inr, true, IsTrue, nat_eq, Option, Some, None, List, [], ◌∷◌, ◌++◌, length, map, flat_map, take, drop, get_or, refl, ap, sym, ◌∙◌, subst, eqb-true, arith}
 use Rattle.std.specs.Prelude.{option_map}
 use Rattle.std.specs.List.{AllByRecursion}
 use Rattle.std.proofs.lemmas.List.{map-append, take-map, drop-map, length-map}
@@ -13,10 +13,11 @@ use Rattle.spec_clauses.specs.Fact.{Fact, Att, Mess, Tab, Ev, Mev, Bad, terms_of
 use Rattle.spec_clauses.specs.Fact as horn
 use Rattle.spec_clauses.specs.Diff.{Diff, diff_under}
 use Rattle.spec_clauses.specs.Variables.{IsBelow, AreBelow}
-use Rattle.spec_clauses.specs.Selection.{Selection, select, IsFirstOfLargest}
+use Rattle.spec_clauses.specs.Selection.{Selection, behind, select}
 use Rattle.spec_clauses.proofs.Lists.{all_first, all_second}
 use Rattle.spec_clauses.proofs.Parts.{terms_of-map}
-use Rattle.spec_clauses.proofs.Selection.{select-first_of_largest}
+use Rattle.spec_derivations.specs.Choice.{at_place}
+use Rattle.spec_derivations.proofs.Choosing.{at_place-within, selected_there}
 use Rattle.term_tree.specs.Bank.{tree_at, AreKnown, Grows}
 use Rattle.term_tree.specs.declared.bank.Id.{Id}
 use Rattle.term_tree.proofs.BankLaws.{Grows_trans, Grows-length, tree_at-grows}
@@ -30,7 +31,7 @@ use Rattle.clause_form.specs.Seen.{fact_at, clause_at, IsFactIn, AreFactsIn, IsC
 use Rattle.clause_form.proofs.Flattening.{AreFactsIn-append, clause_with}
 use Rattle.clause_form.proofs.Copying.{fact_at-grows, facts_at-grow, NamesFact-grows, NameFacts-grows, NamesClause-grows, clause_named}
 use Rattle.clause_resolve.specs.Low.{IsLow, AreLow, IsLowFact, AreLowFacts, AreDiffsBelow, bound_from, AreBelowBound}
-use Rattle.clause_resolve.specs.Apart.{IsSelectedAt, IsApartIn, IsApart}
+use Rattle.clause_resolve.specs.Apart.{IsSelectedAt, IsHypothesisAt, IsApartIn, IsApartOf}
 use Rattle.clause_resolve.specs.declared.apart.Apart.{Apart}
 use Rattle.clause_resolve.proofs.Low.{moved_fact_below}
 
@@ -164,54 +165,54 @@ others_named old now next fs rest at first later new grows further low rest_is f
     subst (λ (l : List (Fact Id)). NameFacts next l (move (take at trees ++ drop (at + 1) trees))) (sym e)
     (subst (λ (l : List (Fact Term)). NameFacts next (first ++ later) l) both (facts_after now next first later (move (map (fact_at old) (map fact_of (take at fs)))) (move (map (fact_at now) (map fact_of rest))) further first_named later_named))
 
--- the selected hypothesis, its place and the others
+-- the hypothesis at a place, and the others
 pub record IsPlaced (c : horn.Clause Term) (at : ℕ) : Type 0 where
   pub selection : Selection
-  pub is_selected : select c.hypotheses ≡ Some selection
-  pub within : at < length c.hypotheses
+  pub is_selected : at_place c.hypotheses at ≡ Some selection
   pub fact : (d : Fact Term) → get_or c.hypotheses at d ≡ selection.fact
   pub others : take at c.hypotheses ++ drop (at + 1) c.hypotheses ≡ selection.others
 
-middle : {X : Type 0} (earlier later : List X) (x d : X) → get_or (earlier ++ x ∷ later) (length earlier) d ≡ x
-middle [] later x d = refl
-middle (y ∷ earlier) later x d = middle earlier later x d
+-- what is at a place of a list of hypotheses
+record IsFound (hs : List (Fact Term)) (at : ℕ) : Type 0 where
+  selection : Selection
+  is_there : at_place hs at ≡ Some selection
+  fact : (d : Fact Term) → get_or hs at d ≡ selection.fact
+  others : take at hs ++ drop (suc at) hs ≡ selection.others
 
-before : {X : Type 0} (earlier later : List X) (x : X) → take (length earlier) (earlier ++ x ∷ later) ≡ earlier
-before [] later x = refl
-before (y ∷ earlier) later x = ap (λ l. y ∷ l) (before earlier later x)
+found : (hs : List (Fact Term)) (at : ℕ) → at < length hs → IsFound hs at
+found [] at within = absurd (omega arith)
+found (h ∷ hs) zero within = record { selection = record { index = 0; fact = h; others = hs }; is_there = refl; fact = λ d. refl; others = refl }
+found (h ∷ hs) (suc at) within =
+    let f = found hs at (omega arith) in
+    record { selection = behind h f.selection; is_there = ap (option_map (behind h)) f.is_there; fact = f.fact; others = ap (λ l. h ∷ l) f.others }
 
-behind_it : {X : Type 0} (earlier later : List X) (x : X) → drop (suc (length earlier)) (earlier ++ x ∷ later) ≡ later
-behind_it [] later x = refl
-behind_it (y ∷ earlier) later x = behind_it earlier later x
+pub placed : (c : horn.Clause Term) (at : ℕ) → IsHypothesisAt c at → IsPlaced c at
+placed c at within =
+    let f = found c.hypotheses at within in
+    let next : at + 1 ≡ suc at = omega arith in
+    record { selection = f.selection; is_selected = f.is_there; fact = f.fact; others = ap (λ n. take at c.hypotheses ++ drop n c.hypotheses) next ∙ f.others }
 
-placed_first : (c : horn.Clause Term) (at : ℕ) (s : Selection) → select c.hypotheses ≡ Some s → IsFirstOfLargest c.hypotheses s → s.index ≡ at → IsPlaced c at
-placed_first c at s selected first e =
-    let index : at ≡ length first.earlier = sym e ∙ first.index in
-    let count : length c.hypotheses ≡ length first.earlier + length (s.fact ∷ first.later) = ap length first.hypotheses ∙ length-append first.earlier (s.fact ∷ first.later) in
-    let next : at + 1 ≡ suc (length first.earlier) = omega arith in
-    record {
-      selection = s;
-      is_selected = selected;
-      within = omega arith;
-      fact = λ d. (λ i. get_or (first.hypotheses i) (index i) d) ∙ middle first.earlier first.later s.fact d;
-      others = (λ i. take (index i) (first.hypotheses i) ++ drop (next i) (first.hypotheses i)) ∙ ((λ i. before first.earlier first.later s.fact i ++ behind_it first.earlier first.later s.fact i) ∙ sym first.others);
-    }
+-- Where the hypothesis at a place is selected, it is there, and it is what is selected.
+pub place_selected : (c : horn.Clause Term) (at : ℕ) → IsSelectedAt c at → IsHypothesisAt c at × (at_place c.hypotheses at ≡ select c.hypotheses)
+place_selected c at e = go (select c.hypotheses) refl e where
+  there : (s : Selection) → s.index ≡ at → select c.hypotheses ≡ Some s → IsHypothesisAt c at × (at_place c.hypotheses at ≡ Some s)
+  there s same is =
+      let place : at_place c.hypotheses at ≡ Some s = ap (at_place c.hypotheses) (sym same) ∙ selected_there c.hypotheses s is in
+      (at_place-within c.hypotheses at s place, place)
 
-pub placed : (c : horn.Clause Term) (at : ℕ) → IsSelectedAt c at → IsPlaced c at
-placed c at e = go (select c.hypotheses) refl e where
-  go : (o : Option Selection) → select c.hypotheses ≡ o → option_map (λ s. s.index) o ≡ Some at → IsPlaced c at
+  go : (o : Option Selection) → select c.hypotheses ≡ o → option_map (λ s. s.index) o ≡ Some at → IsHypothesisAt c at × (at_place c.hypotheses at ≡ o)
   go None is absent = cc
-  go (Some s) is some = let same : s.index ≡ at = cc in placed_first c at s is (select-first_of_largest c.hypotheses s is) same
+  go (Some s) is some = let same : s.index ≡ at = cc in there s same is
 
 -- what a clause is that is raised by the limit of size, with these hypotheses
 abbrev raised_clause : List (Fact Term) → horn.Clause Term → horn.Clause Term
 raised_clause others c = record { hypotheses = map (fact_under (moved most_symbols)) others; diffs = map (diff_under (moved most_symbols)) c.diffs; conclusion = fact_under (moved most_symbols) c.conclusion }
 
 -- the clause is set apart
-clause_apart : (first second third fourth : List Term) (c : horn.Clause Term) (at : ℕ) (selected : declared.Fact) (hyps : List (Fact Id)) (ds : List (DiffOf Id)) (concl : declared.Fact) (fact : Fact Term) (trees : List (Fact Term)) → IsSelectedAt c at → Grows first second → Grows second third → Grows third fourth
+clause_apart : (first second third fourth : List Term) (c : horn.Clause Term) (at : ℕ) (selected : declared.Fact) (hyps : List (Fact Id)) (ds : List (DiffOf Id)) (concl : declared.Fact) (fact : Fact Term) (trees : List (Fact Term)) → IsHypothesisAt c at → Grows first second → Grows second third → Grows third fourth
     → NamesFact first (fact_of selected) (fact_under (moved most_symbols) fact) → AreBelow most_symbols (terms_of fact) → fact ≡ get_or c.hypotheses at fact → NameFacts second hyps (map (fact_under (moved most_symbols)) trees) → trees ≡ take at c.hypotheses ++ drop (at + 1) c.hypotheses
     → NameDiffs third ds (map (diff_under (moved most_symbols)) c.diffs) → AreDiffsBelow bound_from third ds → NamesFact fourth (fact_of concl) (fact_under (moved most_symbols) c.conclusion)
-    → IsApart fourth c record { selected = selected; rest = record { hypotheses = hyps; diffs = ds; conclusion = fact_of concl } }
+    → IsApartOf (at_place c.hypotheses at) fourth c record { selected = selected; rest = record { hypotheses = hyps; diffs = ds; conclusion = fact_of concl } }
 clause_apart first second third fourth c at selected hyps ds concl fact trees place one two three fact_named fact_is_below fact_is hyps_named trees_are ds_named ds_below concl_named =
     let p = placed c at place in
     let later = NamesFact-grows first fourth (fact_of selected) (fact_under (moved most_symbols) fact) (Grows_trans first third fourth (Grows_trans first second third one two) three) fact_named in
@@ -230,7 +231,7 @@ clause_apart first second third fourth c at selected hyps ds concl fact trees pl
     }
 
 -- and stays so
-pub apart_grows : (old new : List Term) (unsolved : horn.Clause Term) (apart : Apart) → Grows old new → IsApart old unsolved apart → IsApart new unsolved apart
+pub apart_grows : {chosen : Option Selection} (old new : List Term) (unsolved : horn.Clause Term) (apart : Apart) → Grows old new → IsApartOf chosen old unsolved apart → IsApartOf chosen new unsolved apart
 apart_grows old new unsolved apart grows was = record {
   at = was.at;
   is_selected = was.is_selected;
@@ -242,14 +243,13 @@ apart_grows old new unsolved apart grows was = record {
   };
 }
 
-pub apart_known : (all : List Term) (unsolved : horn.Clause Term) (apart : Apart) → IsApart all unsolved apart → IsApartIn all apart
+pub apart_known : {chosen : Option Selection} (all : List Term) (unsolved : horn.Clause Term) (apart : Apart) → IsApartOf chosen all unsolved apart → IsApartIn all apart
 apart_known all unsolved apart was = record { selected = was.selected.known; rest = was.rest.known; low = was.low }
 
--- a fact of a bank at the place of the selected one
-pub selected_within : (all : List Term) (c : IdClause) (fs : List declared.Fact) (at : ℕ) → map fact_of fs ≡ c.hypotheses → IsSelectedAt (clause_at all c) at → at < length fs
+-- a fact of a bank at that place
+pub selected_within : (all : List Term) (c : IdClause) (fs : List declared.Fact) (at : ℕ) → map fact_of fs ≡ c.hypotheses → IsHypothesisAt (clause_at all c) at → at < length fs
 selected_within all c fs at is place =
-    let p = placed (clause_at all c) at place in
-    let within : at < length (map (fact_at all) c.hypotheses) = p.within in
+    let within : at < length (map (fact_at all) c.hypotheses) = place in
     omega (arith, within, length-map c.hypotheses (fact_at all), ap length is, length-map fs fact_of)
 
 got_map : {X Y : Type 0} (f : X → Y) (xs : List X) (i : ℕ) (d : X) (e : Y) → i < length xs → get_or (map f xs) i e ≡ f (get_or xs i d)
@@ -264,9 +264,9 @@ selected_fact all c fs at f d is within e =
 
 -- The clause is set apart, step by step: the selected hypothesis, the others, the constraints and the conclusion.
 clause_set_apart : (old first second third fourth : List Term) (at : ℕ) (fs : List declared.Fact) (es : List (DiffOf Id)) (k : Fact Id) (f : declared.Fact) (selected : declared.Fact) (hyps : List (Fact Id)) (ds : List (DiffOf Id)) (concl : declared.Fact) → IsClauseIn old (clause_with (map fact_of fs) es k)
-    → IsSelectedAt (clause_at old (clause_with (map fact_of fs) es k)) at → f ≡ get_or fs at f → IsLowFact old (fact_of f) → Grows old first → Grows first second → Grows second third → Grows third fourth → NamesFact first (fact_of selected) (fact_under (moved most_symbols) (fact_at old (fact_of f)))
+    → IsHypothesisAt (clause_at old (clause_with (map fact_of fs) es k)) at → f ≡ get_or fs at f → IsLowFact old (fact_of f) → Grows old first → Grows first second → Grows second third → Grows third fourth → NamesFact first (fact_of selected) (fact_under (moved most_symbols) (fact_at old (fact_of f)))
     → NameFacts second hyps (map (fact_under (moved most_symbols)) (take at (map (fact_at first) (map fact_of fs)) ++ drop (at + 1) (map (fact_at first) (map fact_of fs)))) → NameDiffs third ds (map (diff_under (moved most_symbols)) (diffs_at second es)) → AreDiffsBelow bound_from third ds
-    → NamesFact fourth (fact_of concl) (fact_under (moved most_symbols) (fact_at third k)) → IsApart fourth (clause_at old (clause_with (map fact_of fs) es k)) record { selected = selected; rest = record { hypotheses = hyps; diffs = ds; conclusion = fact_of concl } }
+    → NamesFact fourth (fact_of concl) (fact_under (moved most_symbols) (fact_at third k)) → IsApartOf (at_place (clause_at old (clause_with (map fact_of fs) es k)).hypotheses at) fourth (clause_at old (clause_with (map fact_of fs) es k)) record { selected = selected; rest = record { hypotheses = hyps; diffs = ds; conclusion = fact_of concl } }
 clause_set_apart old first second third fourth at fs es k f selected hyps ds concl known place f_is f_low one two three four selected_named hyps_named ds_named ds_below concl_named =
     let c = clause_with (map fact_of fs) es k in
     let within = selected_within old c fs at refl place in
@@ -281,12 +281,12 @@ clause_set_apart old first second third fourth at fs es k f selected hyps ds con
 
 -- the same where the clause is given
 pub clause_set_apart_as : (old first second third fourth : List Term) (c : IdClause) (at : ℕ) (fs : List declared.Fact) (es : List (DiffOf Id)) (k : Fact Id) (f : declared.Fact) (selected : declared.Fact) (hyps : List (Fact Id)) (ds : List (DiffOf Id)) (concl : declared.Fact) → clause_with (map fact_of fs) es k ≡ c → IsClauseIn old c
-    → IsSelectedAt (clause_at old c) at → f ≡ get_or fs at f → IsLowFact old (fact_of f) → Grows old first → Grows first second → Grows second third → Grows third fourth → NamesFact first (fact_of selected) (fact_under (moved most_symbols) (fact_at old (fact_of f)))
+    → IsHypothesisAt (clause_at old c) at → f ≡ get_or fs at f → IsLowFact old (fact_of f) → Grows old first → Grows first second → Grows second third → Grows third fourth → NamesFact first (fact_of selected) (fact_under (moved most_symbols) (fact_at old (fact_of f)))
     → NameFacts second hyps (map (fact_under (moved most_symbols)) (take at (map (fact_at first) (map fact_of fs)) ++ drop (at + 1) (map (fact_at first) (map fact_of fs)))) → NameDiffs third ds (map (diff_under (moved most_symbols)) (diffs_at second es)) → AreDiffsBelow bound_from third ds
-    → NamesFact fourth (fact_of concl) (fact_under (moved most_symbols) (fact_at third k)) → IsApart fourth (clause_at old c) record { selected = selected; rest = record { hypotheses = hyps; diffs = ds; conclusion = fact_of concl } }
+    → NamesFact fourth (fact_of concl) (fact_under (moved most_symbols) (fact_at third k)) → IsApartOf (at_place (clause_at old c).hypotheses at) fourth (clause_at old c) record { selected = selected; rest = record { hypotheses = hyps; diffs = ds; conclusion = fact_of concl } }
 clause_set_apart_as old first second third fourth c at fs es k f selected hyps ds concl is known place f_is f_low one two three four selected_named hyps_named ds_named ds_below concl_named =
-    subst (λ (x : IdClause). IsApart fourth (clause_at old x) record { selected = selected; rest = record { hypotheses = hyps; diffs = ds; conclusion = fact_of concl } }) is
-    (clause_set_apart old first second third fourth at fs es k f selected hyps ds concl (subst (λ (x : IdClause). IsClauseIn old x) (sym is) known) (subst (λ (x : IdClause). IsSelectedAt (clause_at old x) at) (sym is) place)
+    subst (λ (x : IdClause). IsApartOf (at_place (clause_at old x).hypotheses at) fourth (clause_at old x) record { selected = selected; rest = record { hypotheses = hyps; diffs = ds; conclusion = fact_of concl } }) is
+    (clause_set_apart old first second third fourth at fs es k f selected hyps ds concl (subst (λ (x : IdClause). IsClauseIn old x) (sym is) known) (subst (λ (x : IdClause). IsHypothesisAt (clause_at old x) at) (sym is) place)
     f_is f_low one two three four selected_named hyps_named ds_named ds_below concl_named)
 
 -- A clause set apart as a whole.

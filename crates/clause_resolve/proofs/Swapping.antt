@@ -13,14 +13,16 @@ use Rattle.spec_calculus.specs.Bounds.{most_symbols}
 use Rattle.spec_clauses.specs.Diff.{diff_under}
 use Rattle.spec_clauses.specs.Fact.{Fact, Clause, terms_of, facts_of, clause_terms, fact_under, clause_under}
 use Rattle.spec_clauses.specs.Variables.{IsBelow, AreBelow, all_terms, constrained_variables}
-use Rattle.spec_clauses.specs.Selection.{Selection, select}
+use Rattle.spec_clauses.specs.Selection.{Selection}
+use Rattle.spec_clauses.specs.Inclusion.{Picks}
 use Rattle.spec_clauses.specs.Resolvents.{joined, IsRawResolvent}
 use Rattle.spec_clauses.specs.Resolvents as answer
-use Rattle.spec_clauses.proofs.Lists.{all_append, all_first, all_second, all-flat_map, all-from_flat_map}
+use Rattle.spec_clauses.proofs.Lists.{all_append, all_first, all-flat_map, all-from_flat_map}
 use Rattle.spec_clauses.proofs.Facts.{fact_under-fact_under, clause_under-clause_under, clause_under-Leaf}
 use Rattle.spec_clauses.proofs.Apart.{mix, mix-high, mix-clause}
-use Rattle.spec_clauses.proofs.Selection.{select-first_of_largest}
 use Rattle.spec_clauses.proofs.Answers.{no_unifier}
+use Rattle.spec_derivations.specs.Choice.{at_place}
+use Rattle.spec_derivations.proofs.Choosing.{all_rest, at_place-picks}
 use Rattle.term_tree.specs.declared.bank.Id.{Id}
 use Rattle.clause_diffs.specs.Diffs.{diffs_at}
 use Rattle.clause_form.specs.declared.facts.Fact as declared
@@ -29,9 +31,9 @@ use Rattle.clause_form.specs.Seen.{fact_at, clause_at, AreFactsIn, IsClauseIn, I
 use Rattle.clause_form.proofs.Flattening.{AreFactsIn-append}
 use Rattle.clause_resolve.specs.declared.resolving.Resolved.{Resolved}
 use Rattle.clause_resolve.specs.Meeting.{IsMguOfFacts, HaveNoUnifier}
-use Rattle.clause_resolve.specs.Apart.{IsSelectedAt, IsMoved}
+use Rattle.clause_resolve.specs.Apart.{IsHypothesisAt, IsMoved}
 use Rattle.clause_resolve.specs.Joining.{together, without, IsFoundOf}
-use Rattle.clause_resolve.specs.Answers.{Gives, IsAnswerOf}
+use Rattle.clause_resolve.specs.Answers.{GivesOf, IsAnswerAt}
 use Rattle.clause_resolve.proofs.Shifting.{IsPlaced, placed, selected_fact}
 use Rattle.clause_resolve.proofs.Answering.{together_known, together_at, found_answers}
 use Rattle.clause_resolve.proofs.Removing.{map_remove}
@@ -112,15 +114,11 @@ chosen at = record { hypotheses = at.others; diffs = []; conclusion = at.fact }
 abbrev AreLowTerms : ℕ → Fact Term → Type 0
 AreLowTerms n f = AllByRecursion (IsBelow n) (terms_of f)
 
-chosen_low : (n : ℕ) (c : Clause Term) (at : Selection) → select c.hypotheses ≡ Some at → AreBelow n (all_terms c) → AreBelow n (all_terms (chosen at))
-chosen_low n c at selected below =
-    let first = select-first_of_largest c.hypotheses at selected in
+chosen_low : (n : ℕ) (c : Clause Term) (at : Selection) → Picks c.hypotheses at.fact at.others → AreBelow n (all_terms c) → AreBelow n (all_terms (chosen at))
+chosen_low n c at picked below =
     let facts = all-from_flat_map (IsBelow n) terms_of (facts_of c) (all_first (IsBelow n) (clause_terms c) (map Leaf (constrained_variables c)) below) in
-    let split : AllByRecursion (AreLowTerms n) (first.earlier ++ at.fact ∷ first.later) = subst (λ (l : List (Fact Term)). AllByRecursion (AreLowTerms n) l) first.hypotheses facts.1 in
-    let before = all_first (AreLowTerms n) first.earlier (at.fact ∷ first.later) split in
-    let behind = all_second (AreLowTerms n) first.earlier (at.fact ∷ first.later) split in
-    let others = all_append (AreLowTerms n) first.earlier first.later before behind.1 in
-    all_append (IsBelow n) (clause_terms (chosen at)) [] (all-flat_map (IsBelow n) terms_of (at.fact ∷ at.others) (behind.0, subst (λ (l : List (Fact Term)). AllByRecursion (AreLowTerms n) l) (sym first.others) others)) tt
+    let split = all_rest (AreLowTerms n) picked facts.1 in
+    all_append (IsBelow n) (clause_terms (chosen at)) [] (all-flat_map (IsBelow n) terms_of (at.fact ∷ at.others) (split.0, split.1)) tt
 
 -- what the unifier makes of the raised solved clause with the others and the conclusion is the raw resolvent
 swapped_raw : (n : ℕ) (solved unsolved : Clause Term) (at : Selection) (s : Subst) → AreBelow n (all_terms solved) → AreBelow n (all_terms unsolved) → AreBelow n (all_terms (chosen at))
@@ -136,10 +134,10 @@ swapped_raw n solved unsolved at s low unsolved_low chosen_is_low =
     let traded_clause : clause_under (swap n) (joined n solved unsolved at) ≡ together (clause_under (moved n) solved) record { hypotheses = at.others; diffs = unsolved.diffs; conclusion = unsolved.conclusion } = λ i. record { hypotheses = hypotheses i; diffs = diffs i; conclusion = conclusion i } in
     sym (ap (clause_under s) traded_clause) ∙ clause_under-clause_under s (swap n) (joined n solved unsolved at)
 
-swapped_resolvent : (n : ℕ) (solved unsolved : Clause Term) (at : Selection) (s : Subst) → AreBelow n (all_terms solved) → AreBelow n (all_terms unsolved) → select unsolved.hypotheses ≡ Some at → IsMguOfFacts (fact_under (moved n) solved.conclusion) at.fact s
+swapped_resolvent : (n : ℕ) (solved unsolved : Clause Term) (at : Selection) (s : Subst) → AreBelow n (all_terms solved) → AreBelow n (all_terms unsolved) → Picks unsolved.hypotheses at.fact at.others → IsMguOfFacts (fact_under (moved n) solved.conclusion) at.fact s
     → IsRawResolvent solved unsolved at (Some (clause_under s (together (clause_under (moved n) solved) record { hypotheses = at.others; diffs = unsolved.diffs; conclusion = unsolved.conclusion })))
-swapped_resolvent n solved unsolved at s low unsolved_low selected mgu =
-    let chosen_is_low = chosen_low n unsolved at selected unsolved_low in record {
+swapped_resolvent n solved unsolved at s low unsolved_low picked mgu =
+    let chosen_is_low = chosen_low n unsolved at picked unsolved_low in record {
       offset = n;
       apart = low;
       unified = (after s (swap n), swapped_mgu n solved.conclusion at.fact s (traded n solved low) (traded n (chosen at) chosen_is_low) mgu, swapped_raw n solved unsolved at s low unsolved_low chosen_is_low);
@@ -179,8 +177,8 @@ moved_together all solved moved_clause unsolved at p m = together_at all moved_c
 
 -- and so the pair's answer: what was found,
 pub moved_result : (all new : List Term) (solved : Clause Term) (moved_clause unsolved made : IdClause) (at : ℕ) (k : Fact Id) (facts : List declared.Fact) (f : declared.Fact) (s : Subst) (r : Result Resolved AllocError) → k ≡ moved_clause.conclusion → map fact_of facts ≡ unsolved.hypotheses → at < length facts → f ≡ get_or facts at f
-    → made ≡ together moved_clause (without at unsolved) → AreBelow most_symbols (all_terms (clause_at all unsolved)) → IsSelectedAt (clause_at all unsolved) at → IsMguOfFacts (fact_at all k) (fact_at all (fact_of f)) s → IfOk r (λ found. IsFoundOf new (clause_under s (clause_at all made)) found) → IsMoved all solved moved_clause
-    → IfOk r (λ found. IsAnswerOf new solved (clause_at all unsolved) found)
+    → made ≡ together moved_clause (without at unsolved) → AreBelow most_symbols (all_terms (clause_at all unsolved)) → IsHypothesisAt (clause_at all unsolved) at → IsMguOfFacts (fact_at all k) (fact_at all (fact_of f)) s → IfOk r (λ found. IsFoundOf new (clause_under s (clause_at all made)) found) → IsMoved all solved moved_clause
+    → IfOk r (λ found. IsAnswerAt at new solved (clause_at all unsolved) found)
 moved_result all new solved moved_clause unsolved made at k facts f s (Err failed) k_is hyps_are within f_is e low selected mgu found m = tt
 moved_result all new solved moved_clause unsolved made at k facts f s (Ok answer_found) k_is hyps_are within f_is e low selected mgu found m =
     let p = placed (clause_at all unsolved) at selected in
@@ -189,16 +187,16 @@ moved_result all new solved moved_clause unsolved made at k facts f s (Ok answer
     let mgu_is : IsMguOfFacts (fact_under (moved most_symbols) solved.conclusion) p.selection.fact s = subst (λ (h : Fact Term). IsMguOfFacts (fact_under (moved most_symbols) solved.conclusion) h s) fact (subst (λ (h : Fact Term). IsMguOfFacts h (fact_at all (fact_of f)) s) concl mgu) in
     let whole = ap (clause_at all) e ∙ moved_together all solved moved_clause unsolved at p m in
     found_answers new solved (clause_at all unsolved) (clause_under s (together (clause_under (moved most_symbols) solved) record { hypotheses = p.selection.others; diffs = (clause_at all unsolved).diffs; conclusion = (clause_at all unsolved).conclusion })) p.selection answer_found p.is_selected
-    (swapped_resolvent most_symbols solved (clause_at all unsolved) p.selection s m.low low p.is_selected mgu_is) (subst (λ (c : Clause Term). IsFoundOf new (clause_under s c) answer_found) whole found)
+    (swapped_resolvent most_symbols solved (clause_at all unsolved) p.selection s m.low low (at_place-picks (clause_at all unsolved).hypotheses at p.selection p.is_selected) mgu_is) (subst (λ (c : Clause Term). IsFoundOf new (clause_under s c) answer_found) whole found)
 
 -- or that nothing unifies them.
 pub moved_unanswered : (all : List Term) (solved : Clause Term) (moved_clause unsolved : IdClause) (at : ℕ) (k : Fact Id) (facts : List declared.Fact) (f : declared.Fact) → k ≡ moved_clause.conclusion → map fact_of facts ≡ unsolved.hypotheses → at < length facts → f ≡ get_or facts at f
-    → AreBelow most_symbols (all_terms (clause_at all unsolved)) → IsSelectedAt (clause_at all unsolved) at → HaveNoUnifier (fact_at all k) (fact_at all (fact_of f)) → IsMoved all solved moved_clause → Gives solved (clause_at all unsolved) answer.NoUnifier
+    → AreBelow most_symbols (all_terms (clause_at all unsolved)) → IsHypothesisAt (clause_at all unsolved) at → HaveNoUnifier (fact_at all k) (fact_at all (fact_of f)) → IsMoved all solved moved_clause → GivesOf (at_place (clause_at all unsolved).hypotheses at) solved (clause_at all unsolved) answer.NoUnifier
 moved_unanswered all solved moved_clause unsolved at k facts f k_is hyps_are within f_is low selected never m =
     let p = placed (clause_at all unsolved) at selected in
     let concl : fact_at all k ≡ fact_under (moved most_symbols) solved.conclusion = ap (fact_at all) k_is ∙ ap (λ (c : Clause Term). c.conclusion) m.names.is in
     let fact : fact_at all (fact_of f) ≡ p.selection.fact = selected_fact all unsolved facts at f p.selection.fact hyps_are within f_is ∙ p.fact p.selection.fact in
-    let chosen_is_low = chosen_low most_symbols (clause_at all unsolved) p.selection p.is_selected low in
+    let chosen_is_low = chosen_low most_symbols (clause_at all unsolved) p.selection (at_place-picks (clause_at all unsolved).hypotheses at p.selection p.is_selected) low in
     record {
       at = p.selection;
       is_selected = p.is_selected;

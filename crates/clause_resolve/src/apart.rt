@@ -12,7 +12,8 @@ ghost use Rattle.clause_form.specs.Facts.{fact_of};
 ghost use Rattle.clause_form.specs.Fit.{HasLowVariables};
 ghost use Rattle.clause_form.specs.Seen.{fact_at, clause_at, IsClauseIn, NamesFact, NameFacts, NamesClause};
 ghost use Rattle.clause_resolve.specs.Low.{AreLow, IsLowFact, AreLowFacts, AreDiffsBelow, bound_from, AreBelowBound};
-ghost use Rattle.clause_resolve.specs.Apart.{IsSelectedAt, IsApart};
+ghost use Rattle.spec_derivations.specs.Choice.{at_place};
+ghost use Rattle.clause_resolve.specs.Apart.{IsSelectedAt, IsHypothesisAt, IsApartOf, IsApart};
 
 use clause_diffs::{Diff, Diffs, Ids};
 use clause_form::{Clause, Fact, Facts};
@@ -143,7 +144,7 @@ fn shifted_diffs<B: Bank>(alloc: Global, bank: &mut B, diffs: &[Diff]) -> Result
     Ok(Diffs { items })
 }
 
-/// The clause with its selected hypothesis, set apart. On `Err` the bank may have grown.
+/// The clause with the hypothesis at a place, set apart. On `Err` the bank may have grown.
 fn shifted_clause<B: Bank>(
     alloc: Global,
     bank: &mut B,
@@ -152,10 +153,10 @@ fn shifted_clause<B: Bank>(
 ) -> Result<Apart, AllocError>
     requires known { IsClauseIn (B.trees bank.old) unsolved.now }
     requires low { HasLowVariables (B.trees bank.old) unsolved.now }
-    requires selected { IsSelectedAt (clause_at (B.trees bank.old) unsolved.now) at }
+    requires there { IsHypothesisAt (clause_at (B.trees bank.old) unsolved.now) at }
     ensures grows { Grows (B.trees bank.old) (B.trees bank.new) }
-    ensures apart { IfOk result (λ made. IsApart (B.trees bank.new)
-        (clause_at (B.trees bank.old) unsolved.now) made) }
+    ensures apart { let c = clause_at (B.trees bank.old) unsolved.now in
+        IfOk result (λ made. IsApartOf (at_place c.hypotheses at) (B.trees bank.new) c made) }
 {
     let facts = unsolved.hyps.items.as_slice();
     let selected = shifted_fact(alloc, bank, &facts[at])?;
@@ -189,6 +190,34 @@ pub(crate) fn moved_clause<B: Bank>(
     Ok(Clause { hyps, diffs, concl })
 }
 
+/// A clause with its hypothesis at a place, set apart from all clauses with variables below the limit of size, as
+/// those have that are their own norms within it.
+///
+/// `Err` comes only for want of memory; then the bank is as before.
+pub(crate) fn set_apart_at<B: Bank>(
+    alloc: Global,
+    bank: &mut B,
+    unsolved: &Clause,
+    at: usize,
+) -> Result<Apart, AllocError>
+    requires known { IsClauseIn (B.trees bank.old) unsolved.now }
+    requires low { HasLowVariables (B.trees bank.old) unsolved.now }
+    requires there { IsHypothesisAt (clause_at (B.trees bank.old) unsolved.now) at }
+    ensures grows { Grows (B.trees bank.old) (B.trees bank.new) }
+    ensures apart { let c = clause_at (B.trees bank.old) unsolved.now in
+        IfOk result (λ made. IsApartOf (at_place c.hypotheses at) (B.trees bank.new) c made) }
+    ensures err { OnErr result (B.trees bank.new ≡ B.trees bank.old) }
+{
+    let mark = bank.mark();
+    match shifted_clause(alloc, bank, unsolved, at) {
+        Ok(made) => Ok(made),
+        Err(error) => {
+            bank.back(mark);
+            Err(error)
+        }
+    }
+}
+
 /// An unsolved clause, whose hypothesis at `at` is selected, set apart from all clauses with variables
 /// below the limit of size, as those have that are their own norms within it.
 ///
@@ -207,12 +236,5 @@ pub fn set_apart<B: Bank>(
         (clause_at (B.trees bank.old) unsolved.now) made) }
     ensures err { OnErr result (B.trees bank.new ≡ B.trees bank.old) }
 {
-    let mark = bank.mark();
-    match shifted_clause(alloc, bank, unsolved, at) {
-        Ok(made) => Ok(made),
-        Err(error) => {
-            bank.back(mark);
-            Err(error)
-        }
-    }
+    set_apart_at(alloc, bank, unsolved, at)
 }

@@ -1,5 +1,5 @@
-//! Resolution of a solved clause with an unsolved one, on its selected hypothesis (Blanchet 2001, section 4;
-//! resolution with free selection, Bachmair and Ganzinger 2001).
+//! Resolution of a clause with another, on one of its hypotheses, as the selected one of an unsolved clause (Blanchet
+//! 2001, section 4; resolution with free selection, Bachmair and Ganzinger 2001).
 #![tactic(auto)]
 
 ghost use Rattle.std.specs.Prelude.{List};
@@ -26,8 +26,8 @@ mod stop;
 
 pub use crate::apart::{Apart, set_apart};
 pub use crate::met::{Met, meet};
-pub use crate::resolving::{Resolved, resolve_apart, resolvents};
-pub use spec_derivations::resolution_keeps_instances;
+pub use crate::resolving::{Resolved, resolve_apart, resolvents, resolvents_at};
+pub use spec_derivations::resolution_keeps_chosen_instances;
 
 /// A clause that is set apart stays so as the bank grows, and its ids name trees.
 pub fn what_is_apart_outlasts_growth()

@@ -1,10 +1,12 @@
 //! Resolution of a solved clause with an unsolved one, on its selected hypothesis (Blanchet 2001, section 4;
 //! resolution with free selection, Bachmair and Ganzinger 2001).
 
-ghost use Rattle.std.specs.Prelude.{◌≡◌, ◌<◌, ◌++◌, true, false, nat_lt, length, IfOk, OnErr, MatchResult};
+ghost use Rattle.std.specs.Prelude.{◌≡◌, ◌<◌, ◌++◌, true, false, nat_lt, Option, length};
+ghost use Rattle.std.specs.Prelude.{IfOk, OnErr, MatchResult};
 ghost use Rattle.std.specs.List.{remove};
 ghost use Rattle.spec_terms.specs.Binding.{resolved};
 ghost use Rattle.spec_clauses.specs.Fact.{Clause as ClauseOf, clause_size, clause_under};
+ghost use Rattle.spec_clauses.specs.Selection.{Selection};
 ghost use Rattle.spec_clauses.specs.Norm.{norms};
 ghost use Rattle.spec_clauses.specs.Limits.{is_large_raw, IsWithinLimit};
 ghost use Rattle.spec_terms.specs.Term.{Term};
@@ -15,10 +17,12 @@ ghost use Rattle.clause_form.specs.Seen.{clause_at, IsClauseIn, NameClauses};
 ghost use Rattle.clause_resolve.specs.Stops.{StopsAt};
 ghost use Rattle.clause_resolve.specs.Joining.{together, without, IsFoundOf};
 ghost use Rattle.clause_resolve.specs.Low.{bound_from, AreDiffsBelow, AreBelowBound, KeepsBelow};
-ghost use Rattle.clause_resolve.specs.Apart.{IsSelectedAt, IsApartIn, IsApart, IsMoved};
-ghost use Rattle.clause_resolve.specs.Answers.{IsAnswerOf, LeavesBank, AreFoundLow};
+ghost use Rattle.clause_resolve.specs.Apart.{IsSelectedAt, IsHypothesisAt, IsApartIn};
+ghost use Rattle.clause_resolve.specs.Apart.{IsApartOf, IsMoved};
+ghost use Rattle.clause_resolve.specs.Answers.{IsAnswerFor, IsAnswerAt, IsAnswerOf};
+ghost use Rattle.clause_resolve.specs.Answers.{LeavesBank, AreFoundLow};
 
-use crate::apart::{Apart, moved_clause, set_apart};
+use crate::apart::{Apart, moved_clause, set_apart_at};
 use crate::applying::applied_clause;
 use crate::clash::clash;
 use crate::meeting::unify_facts;
@@ -142,7 +146,7 @@ pub(crate) fn joined(alloc: Global, solved: &Clause, rest: &Clause) -> Result<Cl
     Ok(Clause { hyps, diffs, concl })
 }
 
-/// The same as `resolvents`, with an unsolved clause that was set apart, in this bank or before it grew: so it is
+/// The same as `resolvents_at`, with an unsolved clause that was set apart, in this bank or before it grew: so it is
 /// set apart once for many solved clauses.
 ///
 /// `Err` comes only for want of memory; then, and where there are no clauses, the bank is as before.
@@ -156,8 +160,9 @@ pub fn resolve_apart<B: Bank>(
     requires solved_low { HasLowVariables (B.trees bank.old) solved.now }
     requires apart { IsApartIn (B.trees bank.old) apart.now }
     ensures grows { Grows (B.trees bank.old) (B.trees bank.new) }
-    ensures answer { (unsolved : ClauseOf Term) → IsApart (B.trees bank.old) unsolved apart.now →
-        IfOk result (λ found. IsAnswerOf (B.trees bank.new)
+    ensures answer { (chosen : Option Selection) (unsolved : ClauseOf Term) →
+        IsApartOf chosen (B.trees bank.old) unsolved apart.now →
+        IfOk result (λ found. IsAnswerFor chosen (B.trees bank.new)
         (clause_at (B.trees bank.old) solved.now) unsolved found) }
     ensures low { IfOk result (λ found. AreFoundLow (B.trees bank.new) found) }
     ensures as_before { IfOk result
@@ -217,10 +222,10 @@ fn resolve_moved<B: Bank>(
     requires moved_low { AreBelowBound (B.trees bank.old) moved.now.conclusion moved.now.diffs }
     requires unsolved { IsClauseIn (B.trees bank.old) unsolved.now }
     requires unsolved_low { HasLowVariables (B.trees bank.old) unsolved.now }
-    requires selected { IsSelectedAt (clause_at (B.trees bank.old) unsolved.now) at }
+    requires there { IsHypothesisAt (clause_at (B.trees bank.old) unsolved.now) at }
     ensures grows { Grows (B.trees bank.old) (B.trees bank.new) }
     ensures answer { (solved : ClauseOf Term) → IsMoved (B.trees bank.old) solved moved.now →
-        IfOk result (λ found. IsAnswerOf (B.trees bank.new) solved
+        IfOk result (λ found. IsAnswerAt at (B.trees bank.new) solved
         (clause_at (B.trees bank.old) unsolved.now) found) }
     ensures low { IfOk result (λ found. AreFoundLow (B.trees bank.new) found) }
 {
@@ -256,9 +261,9 @@ fn resolvents_grown<B: Bank>(
     requires solved_low { HasLowVariables (B.trees bank.old) solved.now }
     requires unsolved { IsClauseIn (B.trees bank.old) unsolved.now }
     requires unsolved_low { HasLowVariables (B.trees bank.old) unsolved.now }
-    requires selected { IsSelectedAt (clause_at (B.trees bank.old) unsolved.now) at }
+    requires there { IsHypothesisAt (clause_at (B.trees bank.old) unsolved.now) at }
     ensures grows { Grows (B.trees bank.old) (B.trees bank.new) }
-    ensures answer { IfOk result (λ found. IsAnswerOf (B.trees bank.new)
+    ensures answer { IfOk result (λ found. IsAnswerAt at (B.trees bank.new)
         (clause_at (B.trees bank.old) solved.now)
         (clause_at (B.trees bank.old) unsolved.now) found) }
     ensures low { IfOk result (λ found. AreFoundLow (B.trees bank.new) found) }
@@ -267,15 +272,15 @@ fn resolvents_grown<B: Bank>(
         let moved = moved_clause(alloc, bank, solved)?;
         return resolve_moved(alloc, bank, &moved, unsolved, at);
     }
-    let apart = set_apart(alloc, bank, unsolved, at)?;
+    let apart = set_apart_at(alloc, bank, unsolved, at)?;
     resolve_apart(alloc, bank, solved, &apart)
 }
 
-/// The resolvents of a solved clause with an unsolved one whose hypothesis at `at` is selected, or that the facts
-/// have no unifier, or that the pair is large. Where predicates, events or roots of terms differ, it takes no memory.
+/// The resolvents of a clause with another on its hypothesis at `at`, whichever that is, or that the facts have no
+/// unifier, or that the pair is large. Where predicates, events or roots of terms differ, it takes no memory.
 ///
 /// `Err` comes only for want of memory; then, and where there are no clauses, the bank is as before.
-pub fn resolvents<B: Bank>(
+pub fn resolvents_at<B: Bank>(
     alloc: Global,
     bank: &mut B,
     solved: &Clause,
@@ -286,9 +291,9 @@ pub fn resolvents<B: Bank>(
     requires solved_low { HasLowVariables (B.trees bank.old) solved.now }
     requires unsolved { IsClauseIn (B.trees bank.old) unsolved.now }
     requires unsolved_low { HasLowVariables (B.trees bank.old) unsolved.now }
-    requires selected { IsSelectedAt (clause_at (B.trees bank.old) unsolved.now) at }
+    requires there { IsHypothesisAt (clause_at (B.trees bank.old) unsolved.now) at }
     ensures grows { Grows (B.trees bank.old) (B.trees bank.new) }
-    ensures answer { IfOk result (λ found. IsAnswerOf (B.trees bank.new)
+    ensures answer { IfOk result (λ found. IsAnswerAt at (B.trees bank.new)
         (clause_at (B.trees bank.old) solved.now)
         (clause_at (B.trees bank.old) unsolved.now) found) }
     ensures low { IfOk result (λ found. AreFoundLow (B.trees bank.new) found) }
@@ -316,4 +321,30 @@ pub fn resolvents<B: Bank>(
             Err(error)
         }
     }
+}
+
+/// The resolvents of a solved clause with an unsolved one whose hypothesis at `at` is selected: the same as
+/// `resolvents_at`.
+pub fn resolvents<B: Bank>(
+    alloc: Global,
+    bank: &mut B,
+    solved: &Clause,
+    unsolved: &Clause,
+    at: usize,
+) -> Result<Resolved, AllocError>
+    requires solved { IsClauseIn (B.trees bank.old) solved.now }
+    requires solved_low { HasLowVariables (B.trees bank.old) solved.now }
+    requires unsolved { IsClauseIn (B.trees bank.old) unsolved.now }
+    requires unsolved_low { HasLowVariables (B.trees bank.old) unsolved.now }
+    requires selected { IsSelectedAt (clause_at (B.trees bank.old) unsolved.now) at }
+    ensures grows { Grows (B.trees bank.old) (B.trees bank.new) }
+    ensures answer { IfOk result (λ found. IsAnswerOf (B.trees bank.new)
+        (clause_at (B.trees bank.old) solved.now)
+        (clause_at (B.trees bank.old) unsolved.now) found) }
+    ensures low { IfOk result (λ found. AreFoundLow (B.trees bank.new) found) }
+    ensures as_before { IfOk result
+        (λ found. LeavesBank (B.trees bank.old) (B.trees bank.new) found) }
+    ensures err { OnErr result (B.trees bank.new ≡ B.trees bank.old) }
+{
+    resolvents_at(alloc, bank, solved, unsolved, at)
 }

@@ -21,8 +21,8 @@ pub fn is_solved<B: Bank>(bank: &B, clause: &Clause) -> bool
     are_solved(bank, &clause.hyps.items)
 }
 
-/// Whether the fact is `bad`.
-fn is_bad<B: Bank>(bank: &B, fact: &Fact) -> bool
+/// Whether the fact is `bad`. Takes no memory.
+pub fn is_bad<B: Bank>(bank: &B, fact: &Fact) -> bool
     ensures { result ≡ is_bad_fact (fact_at (B.trees bank.now) (fact_of fact.now)) }
 {
     match fact {

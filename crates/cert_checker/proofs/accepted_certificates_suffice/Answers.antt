@@ -10,4 +10,4 @@ pub returns : goal.returns
 returns c = λ P q cert accepted given events facts is derived.
     let (shown_of, shown) = c.accepted_certificates_show.ensures P q cert accepted in
     let same = one_list given shown_of (c.one_translation.ensures P q (Clauses given) (Clauses shown_of) is shown.translation) in
-    c.solved_clauses_suffice.ensures.suffice shown_of cert.clauses events facts shown.closes (subst (λ (l : List (Clause Term)). Derive l events facts) same derived)
+    c.solved_clauses_suffice.ensures.suffice shown_of cert.clauses shown.closes events facts (subst (λ (l : List (Clause Term)). Derive l events facts) same derived)

@@ -4,8 +4,8 @@ use Rattle.clause_resolve.proofs.Answering.{as_before}
 use Rattle.cert_stages.proofs.Lowered.{unconstrained_fit}
 use Rattle.cert_checker.proofs.checking.check_normal.Goals as goal
 
-pub check_shaped-requires-clause-fit : goal.check_shaped-requires-clause-fit
-check_shaped-requires-clause-fit g c = unconstrained_fit (g.B.Bank.trees c.args.bank.now) c.args.checker.now.clauses.now c.normal_clauses_have_low_variables.ensures c.requires.normal (c.are_unconstrained.ensures c.if-are_unconstrained.true)
+pub check_right-requires-clause-fit : goal.check_right-requires-clause-fit
+check_right-requires-clause-fit g c = unconstrained_fit (g.B.Bank.trees c.args.bank.now) c.args.checker.now.clauses.now c.normal_clauses_have_low_variables.ensures c.requires.normal (c.are_unconstrained.ensures c.if-are_unconstrained.true)
 
 pub back-requires : goal.back-requires
 back-requires g c = omega (arith, c.mark-mark.ensures, Grows-length (g.B.Bank.trees c.args.bank.now) (g.B.Bank.trees c.check_lowered-ruling.new.bank) c.check_lowered-ruling.ensures.grows)

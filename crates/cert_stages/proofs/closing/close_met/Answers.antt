@@ -1,24 +1,27 @@
-use Rattle.std.proofs.Common.{◌∙◌, [], get_or, sym, arith}
+use Rattle.std.proofs.Common.{◌∙◌, [], get_or, sym}
 use Rattle.std.proofs.lemmas.Option.{slice_get-get_or}
 use Rattle.spec_clauses.specs.Fact.{Bad}
-use Rattle.fact_fingerprint.specs.Seen.{fingerprint_seen}
-use Rattle.fact_fingerprint.proofs.Telling.{print_there, prints_count}
-use Rattle.cert_stages.proofs.Passing.{selected_at, pair_told_apart}
-use Rattle.cert_stages.proofs.closing.close_met.Goals as goal
 use Rattle.clause_form.specs.Seen.{IdClause}
+use Rattle.fact_fingerprint.specs.Seen.{fingerprint_seen}
+use Rattle.cert_stages.proofs.Passing.{chosen_at, pair_told_apart}
+use Rattle.cert_stages.proofs.closing.close_met.Goals as goal
 
-pub bounds-solving-one : goal.bounds-solving-one
-bounds-solving-one g c = omega (arith, prints_count (g.B.Bank.trees c.args.bank.now) c.args.checker.now.clauses.now c.args.solving.now.prints.now c.requires.prints, c.requires.unsolved)
+pub close_pair-requires-clause-unsolved : goal.close_pair-requires-clause-unsolved
+close_pair-requires-clause-unsolved g c = c.requires.unsolved.within
 
-pub returns-then-not-may_resolve-clause-closed : goal.returns-then-not-may_resolve-clause-closed
-returns-then-not-may_resolve-clause-closed g c =
-    let all = (g.B.Bank.trees c.args.bank.now) in
+pub close_pair-requires-clause-chosen : goal.close_pair-requires-clause-chosen
+close_pair-requires-clause-chosen g c = c.requires.unsolved.chosen
+
+pub returns-then-not-may_meet-clause-closed : goal.returns-then-not-may_meet-clause-closed
+returns-then-not-may_meet-clause-closed g c =
+    let all = g.B.Bank.trees c.args.bank.now in
     let cs = c.args.checker.now.clauses.now in
+    let numbers = c.args.checker.now.numbers.now in
     let solving = c.args.solving.now in
-    let one = c.args.one in
+    let one = c.args.one.now in
     let none : IdClause = record { hypotheses = []; diffs = []; conclusion = Bad [] } in
-    pair_told_apart all cs c.args.checker.now.rows.now c.args.from solving.solved one.place none none c.requires.solved c.requires.unsolved one.at (fingerprint_seen solving.print) _
-    (selected_at all cs one.place one.at none c.requires.unsolved c.requires.selected)
+    let there = chosen_at all cs numbers one.place one.at none c.requires.unsolved.within c.requires.right c.requires.unsolved.chosen in
+    pair_told_apart all cs numbers c.args.checker.now.rows.now c.args.from solving.solved one.place one.at none none c.requires.solved c.requires.unsolved.within c.requires.unsolved.chosen there.0 (fingerprint_seen solving.print) (fingerprint_seen one.print) there.1
     (c.requires.print (get_or cs solving.solved none) (slice_get-get_or cs solving.solved none c.requires.solved))
-    (print_there all cs solving.prints.now one.place none _ c.requires.prints c.requires.unsolved)
-    (sym c.may_resolve.ensures ∙ c.if-not-may_resolve.true)
+    (c.requires.unsolved.print (get_or cs one.place none) there.0 (slice_get-get_or cs one.place none c.requires.unsolved.within) there.1)
+    (sym c.may_meet.ensures.exact ∙ c.if-not-may_meet.true)

@@ -1,22 +1,27 @@
-use Rattle.std.proofs.Common.{◌∙◌, List, sym, subst}
+use Rattle.std.proofs.Common.{List, subst, arith}
 use Rattle.std.specs.Prelude.{IfOk}
 use Rattle.spec_certificates.specs.Certificate.{Pair}
 use Rattle.clause_form.specs.Fit.{clauses_at}
 use Rattle.cert_stages.specs.Answers.{IsClosedSo}
-use Rattle.clause_form.proofs.Fit.{fit_in}
-use Rattle.cert_stages.proofs.Passing.{passed_none, solved_pairs}
+use Rattle.cert_stages.proofs.Numbers.{number_positive, number_zero}
+use Rattle.cert_stages.proofs.Passing.{clause_within, passed_none, resting_pairs}
 use Rattle.cert_stages.proofs.closing.close_one.Goals as goal
 
-pub is_solved-requires : goal.is_solved-requires
-is_solved-requires g c = (fit_in (g.B.Bank.trees c.args.bank.now) c.args.checker.now.clauses.now c.args.solved c.index-checker-solved.result c.requires.fit c.requires.solved).known
+pub number_at-requires : goal.number_at-requires
+number_at-requires g c = omega (arith, c.requires.solved, c.requires.as_many)
 
-pub returns-then-not-is_solved-clause-closed : goal.returns-then-not-is_solved-clause-closed
-returns-then-not-is_solved-clause-closed g c =
-    passed_none (g.B.Bank.trees c.args.bank.now) c.args.checker.now.clauses.now c.args.checker.now.rows.now c.args.from c.args.solved c.index-checker-solved.result c.requires.solved (sym c.is_solved.ensures ∙ c.if-not-is_solved.true)
+pub returns-then-number_at-gt0-clause-closed : goal.returns-then-number_at-gt0-clause-closed
+returns-then-number_at-gt0-clause-closed g c =
+    let cs = c.args.checker.now.clauses.now in
+    let numbers = c.args.checker.now.numbers.now in
+    let chooses = number_positive numbers c.args.solved c.number_at.result c.number_at.ensures c.if-number_at-gt0.true in
+    passed_none (g.B.Bank.trees c.args.bank.now) cs numbers c.args.checker.now.rows.now c.args.from c.args.solved chooses.0 (clause_within cs c.args.solved c.requires.solved) c.requires.solved c.requires.right chooses.1
 
 pub returns-clause-closed : goal.returns-clause-closed
 returns-clause-closed g c =
     let all = g.B.Bank.trees c.args.bank.now in
     let cs = c.args.checker.now.clauses.now in
+    let numbers = c.args.checker.now.numbers.now in
+    let rests = number_zero numbers c.args.solved c.number_at.result c.number_at.ensures c.if-number_at-gt0.false in
     subst (λ (ps : List Pair). IfOk c.close_solved.result (λ o. IsClosedSo (clauses_at all cs) ps c.args.checker.now.rows.now c.args.from o))
-    (solved_pairs all cs c.args.solved c.index-checker-solved.result c.requires.solved (sym c.is_solved.ensures ∙ c.if-not-is_solved.false)) c.close_solved.ensures.closed
+    (resting_pairs all cs numbers c.args.solved (clause_within cs c.args.solved c.requires.solved) c.requires.solved rests) c.close_solved.ensures.closed

@@ -1,13 +1,14 @@
-use Rattle.std.proofs.Common.{arith}
-use Rattle.clause_resolve.proofs.Answering.{as_before, taken_back}
-use Rattle.term_tree.proofs.BankLaws.{Grows-length}
+use Rattle.std.proofs.Common.{Option, IfOk, subst}
+use Rattle.spec_clauses.specs.Selection.{Selection}
+use Rattle.clause_form.specs.Seen.{clause_at}
+use Rattle.clause_resolve.specs.Apart.{IsApartOf}
+use Rattle.clause_resolve.proofs.Shifting.{place_selected}
 use Rattle.clause_resolve.proofs.apart.set_apart.Goals as goal
 
-pub returns-in-Err-clause-grows : goal.returns-in-Err-clause-grows
-returns-in-Err-clause-grows g c = taken_back (g.B.Bank.trees c.args.bank.now) (g.B.Bank.trees c.shifted_clause.new.bank) (g.B.Bank.trees c.back.new.self) _ c.shifted_clause.ensures.grows c.mark-mark.ensures c.back.ensures
+pub set_apart_at-requires-clause-there : goal.set_apart_at-requires-clause-there
+set_apart_at-requires-clause-there g c = (place_selected (clause_at (g.B.Bank.trees c.args.bank.now) c.args.unsolved.now) c.args.at c.requires.selected).0
 
-pub returns-in-Err-clause-err : goal.returns-in-Err-clause-err
-returns-in-Err-clause-err g c = as_before (g.B.Bank.trees c.args.bank.now) (g.B.Bank.trees c.shifted_clause.new.bank) (g.B.Bank.trees c.back.new.self) _ c.shifted_clause.ensures.grows c.mark-mark.ensures c.back.ensures
-
-pub back-requires : goal.back-requires
-back-requires g c = omega (arith, c.mark-mark.ensures, Grows-length (g.B.Bank.trees c.args.bank.now) (g.B.Bank.trees c.shifted_clause.new.bank) c.shifted_clause.ensures.grows)
+pub returns-clause-apart : goal.returns-clause-apart
+returns-clause-apart g c =
+    let unsolved = clause_at (g.B.Bank.trees c.args.bank.now) c.args.unsolved.now in
+    subst (λ (chosen : Option Selection). IfOk c.set_apart_at.result (λ made. IsApartOf chosen (g.B.Bank.trees c.set_apart_at.new.bank) unsolved made)) (place_selected unsolved c.args.at c.requires.selected).1 c.set_apart_at.ensures.apart

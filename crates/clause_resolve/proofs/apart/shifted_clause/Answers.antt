@@ -15,12 +15,12 @@ use Rattle.clause_resolve.proofs.apart.shifted_clause.Goals as goal
 pub bounds-facts-at : goal.bounds-facts-at
 bounds-facts-at g c =
     let hyps_are : map fact_of c.as_slice-facts.result.now ≡ c.args.unsolved.now.hypotheses = search rules in
-    selected_within (g.B.Bank.trees c.args.bank.now) c.args.unsolved.now c.as_slice-facts.result.now c.args.at hyps_are c.requires.selected
+    selected_within (g.B.Bank.trees c.args.bank.now) c.args.unsolved.now c.as_slice-facts.result.now c.args.at hyps_are c.requires.there
 
 pub offset_bounds-facts-at : goal.offset_bounds-facts-at
 offset_bounds-facts-at g c =
     let hyps_are : map fact_of c.as_slice-facts.result.now ≡ c.args.unsolved.now.hypotheses = search rules in
-    let within = selected_within (g.B.Bank.trees c.args.bank.now) c.args.unsolved.now c.as_slice-facts.result.now c.args.at hyps_are c.requires.selected in
+    let within = selected_within (g.B.Bank.trees c.args.bank.now) c.args.unsolved.now c.as_slice-facts.result.now c.args.at hyps_are c.requires.there in
     omega (arith, c.as_slice-facts.type_inv)
 
 pub shifted_fact-requires : goal.shifted_fact-requires
@@ -28,7 +28,7 @@ shifted_fact-requires g c =
     let old = g.B.Bank.trees c.args.bank.now in
     let hyps_are : map fact_of c.as_slice-facts.result.now ≡ c.args.unsolved.now.hypotheses = search rules in
     fact_low_at old c.as_slice-facts.result.now c.args.at c.index-facts-at.result c.index-facts-at.is (subst (λ (l : List (Fact Id)). AreLowFacts old l) (sym hyps_are) (hypotheses_low old c.args.unsolved.now c.requires.known c.requires.low))
-    (selected_within old c.args.unsolved.now c.as_slice-facts.result.now c.args.at hyps_are c.requires.selected)
+    (selected_within old c.args.unsolved.now c.as_slice-facts.result.now c.args.at hyps_are c.requires.there)
 
 pub shifted_others-requires-clause-facts : goal.shifted_others-requires-clause-facts
 shifted_others-requires-clause-facts g c =
@@ -39,7 +39,7 @@ shifted_others-requires-clause-facts g c =
 pub shifted_others-requires-clause-at : goal.shifted_others-requires-clause-at
 shifted_others-requires-clause-at g c =
     let hyps_are : map fact_of c.as_slice-facts.result.now ≡ c.args.unsolved.now.hypotheses = search rules in
-    selected_within (g.B.Bank.trees c.args.bank.now) c.args.unsolved.now c.as_slice-facts.result.now c.args.at hyps_are c.requires.selected
+    selected_within (g.B.Bank.trees c.args.bank.now) c.args.unsolved.now c.as_slice-facts.result.now c.args.at hyps_are c.requires.there
 
 pub shifted_diffs-requires-clause-known : goal.shifted_diffs-requires-clause-known
 shifted_diffs-requires-clause-known g c =
@@ -75,9 +75,9 @@ returns-clause-apart g c =
     let concl_is : concl ≡ c.args.unsolved.now.conclusion = search rules in
     let is : clause_with (map fact_of c.as_slice-facts.result.now) c.deref.result.now concl ≡ c.args.unsolved.now = λ i. clause_with (hyps_are i) (diffs_are i) (concl_is i) in
     let low = fact_low_at old c.as_slice-facts.result.now c.args.at c.index-facts-at.result c.index-facts-at.is (subst (λ (l : List (Fact Id)). AreLowFacts old l) (sym hyps_are) (hypotheses_low old c.args.unsolved.now c.requires.known c.requires.low))
-    (selected_within old c.args.unsolved.now c.as_slice-facts.result.now c.args.at hyps_are c.requires.selected) in
+    (selected_within old c.args.unsolved.now c.as_slice-facts.result.now c.args.at hyps_are c.requires.there) in
     clause_set_apart_as old (g.B.Bank.trees c.shifted_fact.new.bank) (g.B.Bank.trees c.shifted_others.new.bank) (g.B.Bank.trees c.shifted_diffs.new.bank) (g.B.Bank.trees c.shifted_fact-2.new.bank) c.args.unsolved.now c.args.at c.as_slice-facts.result.now c.deref.result.now concl c.index-facts-at.result
-    c.in_ok-selected.selected c.in_ok-hyps.hyps c.in_ok-diffs.diffs c.in_ok-concl.concl is c.requires.known c.requires.selected c.index-facts-at.is low c.shifted_fact.ensures.grows c.shifted_others.ensures.grows c.shifted_diffs.ensures.grows c.shifted_fact-2.ensures.grows
+    c.in_ok-selected.selected c.in_ok-hyps.hyps c.in_ok-diffs.diffs c.in_ok-concl.concl is c.requires.known c.requires.there c.index-facts-at.is low c.shifted_fact.ensures.grows c.shifted_others.ensures.grows c.shifted_diffs.ensures.grows c.shifted_fact-2.ensures.grows
     c.in_ok-selected.ensures.names c.in_ok-hyps.ensures.names c.in_ok-diffs.ensures.names c.in_ok-diffs.ensures.low c.in_ok-concl.ensures.names
 
 pub returns-in_err-hyps-clause-grows : goal.returns-in_err-hyps-clause-grows

@@ -9,11 +9,11 @@ use Rattle.term_tree.proofs.BankLaws.{Grows_refl}
 use Rattle.clause_resolve.proofs.resolving.resolve_apart.Goals as goal
 
 pub returns-then-clash-clause-answer : goal.returns-then-clash-clause-answer
-returns-then-clash-clause-answer g c = λ unsolved apart.
+returns-then-clash-clause-answer g c = λ chosen unsolved apart.
     unanswered (g.B.Bank.trees c.args.bank.now) c.args.solved.now _ unsolved c.args.apart.now (ap (λ (k : IdClause). k.conclusion) c.solved.view_is) apart c.requires.solved_low (λ s e. c.clash.ensures c.if-clash.true s s e)
 
 pub returns-then-not-branch-clause-answer : goal.returns-then-not-branch-clause-answer
-returns-then-not-branch-clause-answer g c = λ unsolved apart.
+returns-then-not-branch-clause-answer g c = λ chosen unsolved apart.
     unanswered (g.B.Bank.trees c.args.bank.now) c.args.solved.now _ unsolved c.args.apart.now (ap (λ (k : IdClause). k.conclusion) c.solved.view_is) apart c.requires.solved_low (MatchBool-at_false _ _ c.if-not-branch.true c.in_ok-unify_facts.ensures.outcome)
 
 pub found_under-requires-clause-known : goal.found_under-requires-clause-known
@@ -31,7 +31,7 @@ found_under-requires-clause-kept g c =
     (MatchBool-at_true _ _ c.if-not-branch.false c.in_ok-unify_facts.ensures.outcome)
 
 pub returns-clause-answer : goal.returns-clause-answer
-returns-clause-answer g c = λ unsolved apart.
+returns-clause-answer g c = λ chosen unsolved apart.
     let all = g.B.Bank.trees c.args.bank.now in
     answered_result all (g.B.Bank.trees c.found_under.new.bank) c.args.solved.now c.in_ok-clause.clause _ unsolved c.args.apart.now (standing all c.unify_facts.new.binds.pairs) c.found_under.result (ap (λ (k : IdClause). k.conclusion) c.solved.view_is) c.in_ok-clause.ensures c.requires.solved_low
     (MatchBool-at_true _ _ c.if-not-branch.false c.in_ok-unify_facts.ensures.outcome) c.found_under.ensures.found apart

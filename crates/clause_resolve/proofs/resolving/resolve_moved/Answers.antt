@@ -18,12 +18,12 @@ use Rattle.clause_resolve.proofs.resolving.resolve_moved.Goals as goal
 pub bounds-facts-at : goal.bounds-facts-at
 bounds-facts-at g c =
     let hyps_are : map fact_of c.as_slice-facts.result.now ≡ c.args.unsolved.now.hypotheses = search rules in
-    selected_within (g.B.Bank.trees c.args.bank.now) c.args.unsolved.now c.as_slice-facts.result.now c.args.at hyps_are c.requires.selected
+    selected_within (g.B.Bank.trees c.args.bank.now) c.args.unsolved.now c.as_slice-facts.result.now c.args.at hyps_are c.requires.there
 
 pub offset_bounds-facts-at : goal.offset_bounds-facts-at
 offset_bounds-facts-at g c =
     let hyps_are : map fact_of c.as_slice-facts.result.now ≡ c.args.unsolved.now.hypotheses = search rules in
-    let within = selected_within (g.B.Bank.trees c.args.bank.now) c.args.unsolved.now c.as_slice-facts.result.now c.args.at hyps_are c.requires.selected in
+    let within = selected_within (g.B.Bank.trees c.args.bank.now) c.args.unsolved.now c.as_slice-facts.result.now c.args.at hyps_are c.requires.there in
     omega (arith, c.as_slice-facts.type_inv)
 
 pub unify_facts-requires-clause-right : goal.unify_facts-requires-clause-right
@@ -31,7 +31,7 @@ unify_facts-requires-clause-right g c =
     let all = g.B.Bank.trees c.args.bank.now in
     let hyps_are : map fact_of c.as_slice-facts.result.now ≡ c.args.unsolved.now.hypotheses = search rules in
     fact_known_at all c.as_slice-facts.result.now c.args.at c.index-facts-at.result c.index-facts-at.is (subst (λ (l : List (Fact Id)). AreFactsIn all l) (sym hyps_are) c.requires.unsolved.hypotheses)
-    (selected_within all c.args.unsolved.now c.as_slice-facts.result.now c.args.at hyps_are c.requires.selected)
+    (selected_within all c.args.unsolved.now c.as_slice-facts.result.now c.args.at hyps_are c.requires.there)
 
 pub unify_facts-requires-clause-ready : goal.unify_facts-requires-clause-ready
 unify_facts-requires-clause-ready g c = c.in_ok-binds.ensures.ready (g.B.Bank.trees c.args.bank.now)
@@ -39,7 +39,7 @@ unify_facts-requires-clause-ready g c = c.in_ok-binds.ensures.ready (g.B.Bank.tr
 pub joined_without-requires : goal.joined_without-requires
 joined_without-requires g c =
     let hyps_are : map fact_of c.as_slice-facts.result.now ≡ c.args.unsolved.now.hypotheses = search rules in
-    omega (arith, selected_within (g.B.Bank.trees c.args.bank.now) c.args.unsolved.now c.as_slice-facts.result.now c.args.at hyps_are c.requires.selected, ap (λ l. length l) hyps_are, length-map c.as_slice-facts.result.now fact_of)
+    omega (arith, selected_within (g.B.Bank.trees c.args.bank.now) c.args.unsolved.now c.as_slice-facts.result.now c.args.at hyps_are c.requires.there, ap (λ l. length l) hyps_are, length-map c.as_slice-facts.result.now fact_of)
 
 pub found_under-requires-clause-known : goal.found_under-requires-clause-known
 found_under-requires-clause-known g c =
@@ -55,7 +55,7 @@ found_under-requires-clause-kept g c =
     let all = g.B.Bank.trees c.args.bank.now in
     let hyps_are : map fact_of c.as_slice-facts.result.now ≡ c.args.unsolved.now.hypotheses = search rules in
     let low = fact_low_at all c.as_slice-facts.result.now c.args.at c.index-facts-at.result c.index-facts-at.is (subst (λ (l : List (Fact Id)). AreLowFacts all l) (sym hyps_are) (hypotheses_low all c.args.unsolved.now c.requires.unsolved c.requires.unsolved_low))
-    (selected_within all c.args.unsolved.now c.as_slice-facts.result.now c.args.at hyps_are c.requires.selected) in
+    (selected_within all c.args.unsolved.now c.as_slice-facts.result.now c.args.at hyps_are c.requires.there) in
     other_pair_keeps all c.unify_facts.new.binds.pairs _ (fact_of c.index-facts-at.result) c.args.moved.now (ap (λ (k : IdClause). k.conclusion) c.moved.view_is) c.unify_facts.ensures.ready c.requires.moved_low.fact (fact_below all (fact_of c.index-facts-at.result) low)
     (MatchBool-at_true _ _ c.if-not-branch.false c.in_ok-unify_facts.ensures.outcome)
 
@@ -64,7 +64,7 @@ returns-clause-answer g c = λ solved is_moved.
     let all = g.B.Bank.trees c.args.bank.now in
     let hyps_are : map fact_of c.as_slice-facts.result.now ≡ c.args.unsolved.now.hypotheses = search rules in
     moved_result all (g.B.Bank.trees c.found_under.new.bank) solved c.args.moved.now c.args.unsolved.now c.in_ok-clause.clause c.args.at _ c.as_slice-facts.result.now c.index-facts-at.result (standing all c.unify_facts.new.binds.pairs) c.found_under.result
-    (ap (λ (k : IdClause). k.conclusion) c.moved.view_is) hyps_are (selected_within all c.args.unsolved.now c.as_slice-facts.result.now c.args.at hyps_are c.requires.selected) c.index-facts-at.is c.in_ok-clause.ensures (low_terms all c.args.unsolved.now c.requires.unsolved_low) c.requires.selected
+    (ap (λ (k : IdClause). k.conclusion) c.moved.view_is) hyps_are (selected_within all c.args.unsolved.now c.as_slice-facts.result.now c.args.at hyps_are c.requires.there) c.index-facts-at.is c.in_ok-clause.ensures (low_terms all c.args.unsolved.now c.requires.unsolved_low) c.requires.there
     (MatchBool-at_true _ _ c.if-not-branch.false c.in_ok-unify_facts.ensures.outcome) c.found_under.ensures.found is_moved
 
 pub returns-then-not-branch-clause-answer : goal.returns-then-not-branch-clause-answer
@@ -72,7 +72,7 @@ returns-then-not-branch-clause-answer g c = λ solved is_moved.
     let all = g.B.Bank.trees c.args.bank.now in
     let hyps_are : map fact_of c.as_slice-facts.result.now ≡ c.args.unsolved.now.hypotheses = search rules in
     moved_unanswered all solved c.args.moved.now c.args.unsolved.now c.args.at _ c.as_slice-facts.result.now c.index-facts-at.result (ap (λ (k : IdClause). k.conclusion) c.moved.view_is) hyps_are
-    (selected_within all c.args.unsolved.now c.as_slice-facts.result.now c.args.at hyps_are c.requires.selected) c.index-facts-at.is (low_terms all c.args.unsolved.now c.requires.unsolved_low) c.requires.selected (MatchBool-at_false _ _ c.if-not-branch.true c.in_ok-unify_facts.ensures.outcome) is_moved
+    (selected_within all c.args.unsolved.now c.as_slice-facts.result.now c.args.at hyps_are c.requires.there) c.index-facts-at.is (low_terms all c.args.unsolved.now c.requires.unsolved_low) c.requires.there (MatchBool-at_false _ _ c.if-not-branch.true c.in_ok-unify_facts.ensures.outcome) is_moved
 
 pub returns-in_err-binds-clause-grows : goal.returns-in_err-binds-clause-grows
 returns-in_err-binds-clause-grows g c = Grows_refl (g.B.Bank.trees c.args.bank.now)
