@@ -1,4 +1,5 @@
-"""`python3 second_checker check FILE REPORT`, or `replay FILE RUN`, answers as the program does.
+"""`python3 second_checker check FILE REPORT`, or `replay FILE RUN`, answers as the program does, and `show check FILE REPORT`, which
+reads format 3 too, as the second program.
 Nothing is searched for: what a certificate claims is computed anew from its rows."""
 
 import re
@@ -16,7 +17,7 @@ from translation import Translation
 USAGE = ("usage: verify FILE [--budget N] [--format F] | check FILE REPORT | list FILE QUERY | "
          "replay FILE RUN | ring N")
 
-def answer(command, file, other):
+def answer(command, file, other, formats):
     """What is printed about files, and the status (FORMATS, "What is printed")."""
     text = Path(file).read_bytes()
     try:
@@ -27,14 +28,14 @@ def answer(command, file, other):
     text = Path(other).read_bytes()
     kind, codes = ("report", reports.CODES) if command == "check" else ("run", runs.CODES)
     try:
-        return check(protocol, text) if command == "check" else runs.replay(protocol, text)
+        return check(protocol, text, formats) if command == "check" else runs.replay(protocol, text)
     except words.Refused as fault:
         code, place = fault.args
         return ["refused %s %d %d %s" % (kind, words.line_and_column(text, place)[0], code, codes[code])], 4
 
-def check(protocol, text):
+def check(protocol, text, formats):
     """What is found of each query's claim, and the status (FORMATS, "What is printed")."""
-    claims = reports.claims_of(protocol, text)
+    claims = reports.claims_of(protocol, text, formats)
     certified = any(isinstance(claim, Certificate) for claim in claims)
     translation = Translation(protocol) if certified else None
     answers = [found(query, translation, claim) for query, claim in zip(protocol.queries, claims)]
@@ -43,11 +44,13 @@ def check(protocol, text):
 
 def told(arguments):
     """What is printed for these words, and the status (FORMATS, "What is printed")."""
-    named = not any(re.match("-.", name) for name in arguments[1:])
-    if len(arguments) != 3 or arguments[0] not in ("check", "replay") or not named:
+    shown = arguments[:2] == ["show", "check"]
+    asked = arguments[shown:]
+    named = not any(re.match("-.", name) for name in asked[1:])
+    if len(asked) != 3 or asked[0] not in ("check", "replay") or not named:
         return [USAGE], 2
     try:
-        return answer(*arguments)
+        return answer(*asked, (b"1\n", b"2\n", b"3\n") if shown else (b"1\n", b"2\n"))
     except OSError:
         return ["read fault"], 5
 

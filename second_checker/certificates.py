@@ -2,13 +2,13 @@
 
 from collections import defaultdict, deque, namedtuple
 from itertools import chain
-from clauses import Large, apart, flat, is_large, norm, resolvents, selected
+from clauses import Large, apart, flat, is_large, is_loose, norm, resolvents, selected
 from rows import covers, satisfies
 from translation import goal
 from words import Fault
 
-# The clauses, and of each row its numbers.
-Certificate = namedtuple("Certificate", "clauses covers goals")
+# The clauses, by the number of a clause what is chosen of it, and of each row its numbers.
+Certificate = namedtuple("Certificate", "clauses chosen covers goals")
 
 class Unmet(Fault):
     """The first obligation that isn't met (FORMATS, "The certificates that are refused")."""
@@ -30,24 +30,38 @@ def rule(query, translation, certificate):
         wide = clause.conclusion[0] != ("bad",) or len(clause.conclusion[1]) == query.width
         shapely = wide and not is_large(clause) and flat(clause) == [clause] == [norm(clause)]
         Unmet.where(not shapely, "shape %d" % number)
+    places = [place_chosen(clause, certificate.chosen.get(number)) for number, clause in enumerate(clauses, 1)]
+    for number, (clause, place) in enumerate(zip(clauses, places), 1):
+        Unmet.where(not is_right(clause, place), "shape %d" % number)
     Unmet.where(translation.large, "translation %s" % translation.large)
     given = enumerate(translation.clauses + goal(query), 1)
     to_cover = [("cover %d" % number, clause) for number, clause in given]
-    for obligation, clause in chain(to_cover, closure(clauses)):
+    for obligation, clause in chain(to_cover, closure(clauses, places)):
         number, *positions = rows.popleft() if rows else [0]
         shown = 1 <= number <= len(clauses) and covers(clauses[number - 1], positions, clause)
         Unmet.where(not shown, obligation)
     for number, clause in enumerate(clauses, 1):
-        if clause.conclusion[0] == ("bad",) and selected(clause.hypotheses) is None:
+        if clause.conclusion[0] == ("bad",) and places[number - 1] is None:
             Unmet.where(not goals or not satisfies(query, goals.popleft(), clause), "goal %d" % number)
     last = len(certificate.covers) + (0 if rows else len(certificate.goals))
     Unmet.where(rows or goals, "extra %d" % (last - len(rows or goals) + 1))
 
-def closure(clauses):
+def place_chosen(clause, number):
+    """The place of the hypothesis that is chosen, None where the clause rests (CERTIFICATE, "A choice of its own")."""
+    if number is None:
+        return selected(clause.hypotheses)
+    return number - 1 if number else None
+
+def is_right(clause, place):
+    """Whether that may be chosen, or the clause may rest (CERTIFICATE, "A choice of its own")."""
+    if place is None:
+        return selected(clause.hypotheses) is None or not is_loose(clause.conclusion)
+    return place < len(clause.hypotheses) and selected(clause.hypotheses[place:place + 1]) is not None
+
+def closure(clauses, places):
     """An obligation for each resolvent of two of the clauses (CERTIFICATE, "What has to be shown", 3)."""
     solved, unsolved = [], defaultdict(list)
-    for number, clause in enumerate(clauses, 1):
-        place = selected(clause.hypotheses)
+    for number, (clause, place) in enumerate(zip(clauses, places), 1):
         if place is None:
             solved.append((number, clause))
         else:

@@ -14,6 +14,8 @@ MOST_LEVELS, MOST_SYMBOLS, MOST_PARTS = 16_384, 16_384, 16
 CODES = [None, *"Syntax Number Symbol Arity Count LongFile NodeOrder NodeLarge".split()]
 
 WORD, DIGITS, TEXT = re.compile(rb"[A-Za-z_][A-Za-z0-9_']*"), re.compile(rb"[0-9]+"), re.compile(rb"[^\n]+")
+# The letters of the lines of a certificate, by what names its format.
+LINES = {b"1\n": b"crge", b"2\n": b"ncrge", b"3\n": b"ncsrge"}
 CONCLUSIONS = b"att", b"mess", b"tab(", b"ev(", b"bad("
 HYPOTHESES = b"att", b"mess", b"tab(", b"ev(", b"mev("
 
@@ -24,9 +26,9 @@ def number_of(digits, place):
 
 class Reader:
     """A place in the text; each method reads what it is called after (FORMATS, "The text of a report")."""
-    def __init__(self, protocol, text):
-        """The beginning of a text (FORMATS, "The text of a report")."""
-        self.protocol, self.text, self.at = protocol, text, 0
+    def __init__(self, protocol, text, formats):
+        """The beginning of a text, whose certificates have these formats (FORMATS, "The text of a report")."""
+        self.protocol, self.text, self.at, self.formats = protocol, text, 0, formats
         # Of a certificate of format 2 the nodes, their numbers, and how many were reached; the symbols of the
         # clause so far, and those of all clauses before it.
         self.nodes, self.numbers, self.reached, self.symbols, self.earlier = None, {}, 0, 0, 0
@@ -211,11 +213,11 @@ class Reader:
         return Clause(hypotheses, constraints, self.fact(self.one_of(*CONCLUSIONS)))
 
     def certificate(self):
-        """Lines n (in format 2), c, r, g and e, in this order (FORMATS, "The text of a report", cert)."""
+        """Lines n (not in format 1), c, s (in format 3), r, g and e, in this order (FORMATS, "The text of a report", cert)."""
         self.one_of(b"cert ")
-        left = b"ncrge" if self.one_of(b"1\n", b"2\n") == b"2\n" else b"crge"
+        left = LINES[self.one_of(*self.formats)]
         self.nodes, self.numbers, self.reached, self.earlier = [] if b"n" in left else None, {}, 0, 0
-        clauses, rows = [], {b"r": [], b"g": []}
+        clauses, chosen, rows = [], {}, {b"r": [], b"g": []}
         while True:
             letter, place = self.next(), self.at
             Refused.where(not letter or letter not in left, 1, place)
@@ -224,13 +226,18 @@ class Reader:
             Refused.where(letter in b"rge" and self.reached < len(self.numbers), 7, place)
             self.one_of(b"end\n" if letter == b"e" else letter + b" ")
             if letter == b"e":
-                return Certificate(clauses, rows[b"r"], rows[b"g"])
+                return Certificate(clauses, chosen, rows[b"r"], rows[b"g"])
             if letter == b"n":
                 self.node()
             elif letter == b"c":
                 self.symbols = 0
                 clauses.append(self.clause())
                 self.earlier += self.symbols
+            elif letter == b"s":
+                place, clause = self.at, self.number()
+                Refused.where(not max(chosen, default=0) < clause <= len(clauses), 5, place)
+                self.one_of(b" ")
+                chosen[clause] = self.number()
             else:
                 row = [self.number()]
                 while self.passes(b" "):
@@ -254,10 +261,10 @@ class Reader:
             self.one_of(b"\n")
         return "not claimed"
 
-def claims_of(protocol, text):
+def claims_of(protocol, text, formats):
     """The claims of a report, one for each query (FORMATS, "The text of a report", claims)."""
     Refused.where(len(text) > MOST_BYTES, 6, 0)
-    reader, claims, count = Reader(protocol, text), [], len(protocol.queries)
+    reader, claims, count = Reader(protocol, text, formats), [], len(protocol.queries)
     while reader.at < len(text):
         claims.append(reader.claim(len(claims) + 1 if len(claims) < count else None))
     Refused.where(len(claims) < count, 5, len(text))
