@@ -10,7 +10,7 @@ use Rattle.clause_form.specs.Seen.{clause_at, AreClausesIn, IdClause}
 use Rattle.clause_form.specs.Fit.{AreLowWithinLimit, IsFit, AreFit, clauses_at}
 use Rattle.term_tree.specs.Bank.{Grows}
 use Rattle.clause_form.proofs.Fit.{resolvents_fit, AreFit-grow}
-use Rattle.clause_resolve.specs.Answers.{IsAnswerOf, AreFoundLow}
+use Rattle.clause_resolve.specs.Answers.{IsAnswerAt, AreFoundLow}
 use Rattle.clause_resolve.specs.declared.resolving.Resolved.{Resolved}
 use Rattle.clause_resolve.specs.declared.resolving.Resolved.TheVariants.{NoUnifier, Large, Clauses}
 use Rattle.certificate_search.specs.Fits.{AreFoundFit}
@@ -47,7 +47,7 @@ pub clauses_found : (all : List Term) (found : Resolved) (cs : List IdClause) �
 clauses_found all found cs is fit = subst (λ (r : Resolved). AreFoundFit all r) is fit
 
 -- what a pair gives is fit
-pub found_fit : (all : List Term) (solved unsolved : horn.Clause Term) (found : Resolved) → IsAnswerOf all solved unsolved found → AreFoundLow all found → AreFoundFit all found
-found_fit all solved unsolved NoUnifier answer low = tt
-found_fit all solved unsolved Large answer low = tt
-found_fit all solved unsolved (Clauses made) (resolvents, names, g) low = resolvents_fit all made g.gives.0 resolvents g.gives.2 names low
+pub found_fit : (all : List Term) (at : ℕ) (resting other : horn.Clause Term) (found : Resolved) → IsAnswerAt at all resting other found → AreFoundLow all found → AreFoundFit all found
+found_fit all at resting other NoUnifier answer low = tt
+found_fit all at resting other Large answer low = tt
+found_fit all at resting other (Clauses made) (resolvents, names, g) low = resolvents_fit all made g.gives.0 resolvents g.gives.2 names low

@@ -1,31 +1,71 @@
 //! The search of a certificate.
 
-ghost use Rattle.std.specs.Prelude.{IfOk};
-ghost use Rattle.certificate_search.specs.Searched.{CanBeSearched, CertifiesIfFound, IsProvenAttempt, IsProvenFound};
+ghost use Rattle.std.specs.Prelude.{◌≡◌, IfOk};
+ghost use Rattle.spec_calculus.specs.Secrecy.{Holds};
+ghost use Rattle.spec_certificates.specs.Certificate.{numbers_for};
+ghost use Rattle.spec_certificates.specs.Ruling.{IsRuledBy};
+ghost use Rattle.query_derive.specs.GoalRows.{OfQuery};
+ghost use Rattle.cert_checker.specs.Rulings.{ruling_of};
+ghost use Rattle.cert_checker.specs.declared.ruling.Ruling.TheVariants.{Accepted};
+ghost use Rattle.certificate_search.specs.Searched.{protocol_at, CanBeSearched, CertifiesIfFound};
+ghost use Rattle.certificate_search.specs.Searched.{IsProvenAttempt, IsProvenFound};
 
-use crate::found::{Attempt, Failure, Found, Search, Trial};
-use crate::growth::grown;
-use crate::plans::{Content, ROUNDS, all_plans, most_symbols};
+use crate::found::{Attempt, ChosenCert, Failure, Found, Search, Trial};
+use crate::growth::{Growth, grown};
+use crate::plans::{Content, Plan, ROUNDS, all_plans, most_symbols};
 use crate::pool::Pool;
-use crate::rows::cert_of;
+use crate::rows::{cert_of, clauses_of};
 use crate::saturating::{Ended, saturated};
+use crate::stock::Kept;
 use crate::task::{Given, Task};
 use crate::translating::{Translation, translated};
-use cert_checker::{Ruling, check_cert};
-use cert_form::{Cert, PlainClauses};
-use clause_generalize::{Manner, asked_by};
+use cert_checker::{Placed, Ruling, check_placed_in};
+use cert_form::PlainClauses;
+use clause_generalize::asked_by;
 use pi_tree::Query;
 use std::alloc::{AllocError, Global};
+use term_store::SharedBank;
+
+/// What is ruled of a certificate by what it says of its clauses.
+fn ruled(search: &Search<'_>, found: &ChosenCert) -> Result<Ruling, AllocError>
+    requires { CanBeSearched search.now }
+    ensures ruled { let P = protocol_at search.now in
+        let cert = found.now.cert in
+        IfOk result (λ ruling. OfQuery P search.now.query (λ q.
+        IsRuledBy (numbers_for cert.clauses found.now.said.items) P q cert (ruling_of ruling))) }
+    ensures holds { IfOk result (λ ruling. ruling ≡ Accepted →
+        OfQuery (protocol_at search.now) search.now.query (λ q.
+        Holds (protocol_at search.now) q)) }
+{
+    let Search {
+        alloc,
+        protocol,
+        query,
+        budget: _,
+    } = *search;
+    let placed = Placed {
+        cert: &found.cert,
+        said: &found.said,
+    };
+    let mut bank = SharedBank::new(alloc)?;
+    check_placed_in(alloc, &mut bank, protocol, query, &placed)
+}
 
 /// The certificate, where the checker accepts it.
-fn judged(search: &Search<'_>, cert: Cert) -> Result<Attempt, AllocError>
+fn judged(search: &Search<'_>, found: ChosenCert) -> Result<Attempt, AllocError>
     requires { CanBeSearched search.now }
     ensures { IfOk result (IsProvenAttempt search.now) }
 {
-    match check_cert(search.alloc, search.protocol, search.query, &cert)? {
-        Ruling::Accepted => Ok(Attempt::Found(cert)),
+    match ruled(search, &found)? {
+        Ruling::Accepted => Ok(Attempt::Found(found)),
         _ => Ok(Attempt::Failed(Failure::Open)),
     }
+}
+
+/// What grows in these clauses.
+fn growth_among(pool: &Pool, task: &Task<'_>, live: &[Kept]) -> Result<Option<Growth>, AllocError> {
+    let clauses = clauses_of(task.search.alloc, pool, live)?;
+    grown(task.search.alloc, &clauses)
 }
 
 /// What a saturation of the first clauses of the pool, so many, comes to.
@@ -34,18 +74,17 @@ fn ended(pool: &mut Pool, task: &Task<'_>, given: usize, end: Ended) -> Result<A
     ensures { IfOk result (IsProvenAttempt task.now.search) }
 {
     match end {
-        Ended::Closed(places) => match cert_of(pool, task, given, &places)? {
+        Ended::Closed(live) => match cert_of(pool, task, given, &live)? {
             None => Ok(Attempt::Failed(Failure::Open)),
-            Some(cert) => judged(&task.search, cert),
+            Some(found) => judged(&task.search, found),
         },
         Ended::Unmet(place) => match pool.read(place)? {
             None => Ok(Attempt::Failed(Failure::Open)),
             Some(clause) => Ok(Attempt::Failed(Failure::Unmet(clause))),
         },
         Ended::Large => Ok(Attempt::Failed(Failure::Large)),
-        Ended::Spent(places) => {
-            let clauses = pool.read_all(&places)?;
-            let growth = grown(task.search.alloc, &clauses)?;
+        Ended::Spent(live) => {
+            let growth = growth_among(pool, task, &live)?;
             Ok(Attempt::Failed(Failure::Spent(growth)))
         }
     }
@@ -65,7 +104,7 @@ fn attempted_over(pool: &mut Pool, task: &Task<'_>) -> Result<Attempt, AllocErro
 fn attempted(
     search: &Search<'_>,
     given: &Given<'_>,
-    plan: Manner,
+    plan: Plan,
     most: usize,
 ) -> Result<Attempt, AllocError>
     requires { CanBeSearched search.now }
@@ -74,7 +113,7 @@ fn attempted(
     let task = Task {
         search: *search,
         asked: given.asked,
-        manner: &plan,
+        plan: &plan,
         most,
     };
     let mut pool = Pool::of(search.alloc, given.clauses)?;
@@ -96,14 +135,14 @@ fn tried(
     given: &Given<'_>,
     trials: &mut [Trial],
     most: usize,
-) -> Result<Option<(Cert, Manner)>, AllocError>
+) -> Result<Option<(ChosenCert, Plan)>, AllocError>
     requires { CanBeSearched search.now }
     ensures { IfOk result (CertifiesIfFound search.now) }
 {
     'each: for trial in trials {
         if is_open(trial) {
             match attempted(search, given, trial.plan, most)? {
-                Attempt::Found(cert) => return Ok(Some((cert, trial.plan))),
+                Attempt::Found(found) => return Ok(Some((found, trial.plan))),
                 Attempt::Failed(failure) => trial.failure = Some(failure),
             }
         }
@@ -144,8 +183,8 @@ fn rounds(search: &Search<'_>, given: &Given<'_>) -> Result<Found, AllocError>
     let mut trials = untried(search.alloc, content_of(search, given.clauses))?;
     'each: for round in ROUNDS {
         let most = round.most(search.budget);
-        if let Some((cert, plan)) = tried(search, given, &mut trials, most)? {
-            return Ok(Found::Certificate(cert, plan));
+        if let Some((found, plan)) = tried(search, given, &mut trials, most)? {
+            return Ok(Found::Certificate(found, plan));
         }
     }
     Ok(Found::Nothing(trials))

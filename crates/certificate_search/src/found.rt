@@ -1,9 +1,9 @@
 //! What a search is about, and what it comes to.
 
 use crate::growth::Growth;
+use crate::plans::Plan;
 use cert_form::Cert;
 use clause_form::PlainClause;
-use clause_generalize::Manner;
 use pi_tree::Protocol;
 use std::alloc::Global;
 
@@ -23,15 +23,24 @@ pub enum Failure {
 /// A plan, and why it found no certificate; nothing where it wasn't tried.
 #[derive(Drop)]
 pub struct Trial {
-    pub plan: Manner,
+    pub plan: Plan,
     pub failure: Option<Failure>,
+}
+
+/// A certificate, and what it says of its clauses.
+#[derive(Drop)]
+pub struct ChosenCert {
+    pub cert: Cert,
+    /// Beside each clause, where it isn't what selection chooses: the number of the hypothesis that is chosen, from 1, or 0 where the
+    /// clause rests. Empty where all is by selection.
+    pub said: Vec<Option<usize>>,
 }
 
 /// What a search comes to.
 #[derive(Drop)]
 pub enum Found {
     /// A certificate, and the plan that found it.
-    Certificate(Cert, Manner),
+    Certificate(ChosenCert, Plan),
     /// Each plan failed.
     Nothing(Vec<Trial>),
     /// The translation is too large at this point.
@@ -52,6 +61,6 @@ pub struct Search<'a> {
 /// What a plan comes to.
 #[derive(Drop)]
 pub enum Attempt {
-    Found(Cert),
+    Found(ChosenCert),
     Failed(Failure),
 }

@@ -56,7 +56,13 @@ fn taken(
     let Some(plain) = pool.read(so_far)? else {
         return Ok(so_far);
     };
-    let steps = stepped(task.search.alloc, task.asked, task.manner, step, &plain)?;
+    let steps = stepped(
+        task.search.alloc,
+        task.asked,
+        &task.plan.manner,
+        step,
+        &plain,
+    )?;
     first_accepted(pool, special, so_far, &steps)
 }
 

@@ -5,6 +5,7 @@
 #![tactic(auto)]
 
 mod certifying;
+mod choosing;
 mod fits;
 pub mod found;
 mod generalizing;
@@ -18,7 +19,7 @@ mod task;
 mod translating;
 
 pub use crate::certifying::searched;
-pub use crate::found::{Failure, Found, Search, Trial};
+pub use crate::found::{ChosenCert, Failure, Found, Search, Trial};
 pub use crate::growth::Growth;
-pub use crate::plans::DEFAULT_BUDGET;
+pub use crate::plans::{Choice, DEFAULT_BUDGET, Plan};
 pub use clause_generalize::{Cut, Links, Manner};

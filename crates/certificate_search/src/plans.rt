@@ -3,6 +3,23 @@
 use clause_generalize::{Cut, Links, Manner};
 use std::alloc::{AllocError, Global};
 
+/// By what a hypothesis of a clause is chosen, on which it is resolved, or that the clause rests.
+#[derive(Clone, Copy)]
+pub enum Choice {
+    /// The first of the largest hypotheses that can be selected; solved clauses rest.
+    Selected,
+    /// The first of the largest of those that don't unify with a hypothesis from which a clause concludes another like it; clauses that do
+    /// so rest.
+    Avoiding,
+}
+
+/// What a search tries: in which manner clauses are made more general, and by what a hypothesis is chosen.
+#[derive(Clone, Copy)]
+pub struct Plan {
+    pub manner: Manner,
+    pub choice: Choice,
+}
+
 /// The budget, in clauses, where none is given.
 pub const DEFAULT_BUDGET: u32 = 800;
 
@@ -54,16 +71,31 @@ const FLAT: Cut = Cut {
     tuples: 2,
 };
 
+/// No terms are cut.
+const WHOLE: Depth = Depth {
+    cut: None,
+    names: None,
+};
+
+impl Depth {
+    /// The manner in which these terms are cut.
+    fn manner(self, links: Links, has_diffs: bool) -> Manner {
+        Manner {
+            links,
+            cut: self.cut,
+            names: self.names,
+            has_diffs,
+        }
+    }
+}
+
 /// In the order in which they are tried.
 const DEPTHS: [Depth; 5] = [
     Depth {
         cut: Some(USUAL),
         names: None,
     },
-    Depth {
-        cut: None,
-        names: None,
-    },
+    WHOLE,
     Depth {
         cut: None,
         names: Some(2),
@@ -90,34 +122,34 @@ pub(crate) struct Content {
     pub diffs: bool,
 }
 
-/// Adds the plans that cut these terms: those that keep constraints, and where there are some one that doesn't.
-fn add_plans(plans: &mut Vec<Manner>, depth: Depth, content: Content) -> Result<(), AllocError> {
+/// Adds the plans by selection that cut these terms: those that keep constraints, and where there are some one that doesn't.
+fn add_plans(plans: &mut Vec<Plan>, depth: Depth, content: Content) -> Result<(), AllocError> {
     'each: for links in LINKS {
         if content.events || links == Links::All {
-            plans.push(Manner {
-                links,
-                cut: depth.cut,
-                names: depth.names,
-                has_diffs: true,
+            plans.push(Plan {
+                manner: depth.manner(links, true),
+                choice: Choice::Selected,
             })?;
         }
     }
     if content.diffs {
-        plans.push(Manner {
-            links: Links::All,
-            cut: depth.cut,
-            names: depth.names,
-            has_diffs: false,
+        plans.push(Plan {
+            manner: depth.manner(Links::All, false),
+            choice: Choice::Selected,
         })?;
     }
     Ok(())
 }
 
 /// All plans for such clauses, in the order in which they are tried.
-pub(crate) fn all_plans(alloc: Global, content: Content) -> Result<Vec<Manner>, AllocError> {
+pub(crate) fn all_plans(alloc: Global, content: Content) -> Result<Vec<Plan>, AllocError> {
     let mut plans = Vec::new(alloc);
     'each: for depth in DEPTHS {
         add_plans(&mut plans, depth, content)?;
     }
+    plans.push(Plan {
+        manner: WHOLE.manner(Links::All, true),
+        choice: Choice::Avoiding,
+    })?;
     Ok(plans)
 }

@@ -3,15 +3,16 @@
 ghost use Rattle.certificate_search.specs.Searched.{CanBeSearched};
 
 use crate::fits::{
-    append_fit, clause_at, copies, cut_fit, fit_norm, gives_all, push_fit, resolved,
+    append_fit, candidates, clause_at, copies, cut_fit, fit_norm, gives_all, may_rest, meets,
+    push_fit, resolved, selected_of,
 };
 use crate::found::Search;
 use cert_form::{PlainClauses, read_clauses};
 use clause_form::{Clause, Clauses, PlainClause, read_out, size_of};
 use clause_resolve::Resolved;
-use fact_fingerprint::{Fingerprint, conclusion_fingerprint, hypothesis_fingerprint};
+use fact_fingerprint::{Fingerprint, conclusion_fingerprint};
 use feature_index::{Features, features};
-use literal_selection::is_solved_goal;
+use literal_selection::is_bad;
 use multiset_subsume::{Row, cover_row};
 use query_derive::{QueryRow, satisfies};
 use std::alloc::{AllocError, Global};
@@ -43,9 +44,23 @@ impl Model for Pool {
 pub struct Looks {
     pub features: Features,
     pub conclusion: Fingerprint,
-    /// The fingerprint of the selected hypothesis, if the clause isn't solved.
-    pub selected: Option<Fingerprint>,
     pub size: u64,
+}
+
+/// A hypothesis on which a clause may be resolved: its place, from 0, its fingerprint and its size.
+#[derive(Clone, Copy)]
+pub struct Candidate {
+    pub at: usize,
+    pub fingerprint: Fingerprint,
+    pub size: u64,
+}
+
+/// Two clauses that may be resolved, by their places: one that rests, and one with the place of its hypothesis that is chosen.
+#[derive(Clone, Copy)]
+pub struct Pair {
+    pub resting: usize,
+    pub other: usize,
+    pub at: usize,
 }
 
 /// What a pair of clauses gives.
@@ -57,14 +72,14 @@ pub enum Made {
     Large,
 }
 
-/// How a clause stands to a query.
+/// How a clause that rests stands to a query.
 #[derive(Drop)]
 pub enum Goal {
-    /// It isn't solved, or doesn't conclude `bad`.
+    /// It doesn't conclude `bad`.
     NotDue,
-    /// It is solved, concludes `bad`, and doesn't satisfy the query.
+    /// It concludes `bad`, and doesn't satisfy the query.
     Unmet,
-    /// It is solved, concludes `bad`, and satisfies the query by this row.
+    /// It concludes `bad`, and satisfies the query by this row.
     Met(QueryRow),
 }
 
@@ -107,7 +122,6 @@ impl Pool {
         Some(Looks {
             features: features(&self.bank, clause),
             conclusion: conclusion_fingerprint(&self.bank, clause),
-            selected: hypothesis_fingerprint(&self.bank, clause),
             size: size_of(&self.bank, clause),
         })
     }
@@ -131,14 +145,41 @@ impl Pool {
         cover_row(self.alloc, &self.bank, first, second)
     }
 
-    /// How the clause at a place stands to a query.
+    /// The hypotheses of the clause at a place on which it may be resolved, in order.
+    pub fn candidates(&self, place: usize) -> Result<Vec<Candidate>, AllocError> {
+        match clause_at(&self.clauses, place) {
+            None => Ok(Vec::new(self.alloc)),
+            Some(clause) => candidates(self.alloc, &self.bank, clause),
+        }
+    }
+
+    /// The place of the hypothesis that is selected of the clause at a place, if it isn't solved.
+    pub fn selected(&self, place: usize) -> Option<usize> {
+        let clause = clause_at(&self.clauses, place)?;
+        selected_of(&self.bank, clause)
+    }
+
+    /// Whether the clause at a place concludes neither `bad` nor `att` of a variable.
+    pub fn may_rest(&self, place: usize) -> bool {
+        match clause_at(&self.clauses, place) {
+            None => false,
+            Some(clause) => may_rest(&self.bank, clause),
+        }
+    }
+
+    /// Whether the conclusion of the first clause of a pair unifies with the other one's hypothesis, their variables set apart.
+    pub fn meets(&mut self, pair: Pair) -> Result<bool, AllocError> {
+        meets(self.alloc, &mut self.bank, &self.clauses, pair)
+    }
+
+    /// How the clause at a place, which rests, stands to a query.
     pub fn goal(&self, place: usize, search: &Search<'_>) -> Result<Goal, AllocError>
         requires { CanBeSearched search.now }
     {
         let Some(clause) = clause_at(&self.clauses, place) else {
             return Ok(Goal::NotDue);
         };
-        if !is_solved_goal(&self.bank, clause) {
+        if !is_bad(&self.bank, &clause.concl) {
             return Ok(Goal::NotDue);
         }
         match satisfies(
@@ -182,9 +223,9 @@ impl Pool {
         }
     }
 
-    /// Adds the resolvents of the clause at the first place, which is solved, with that at the second, which isn't.
-    pub fn resolve(&mut self, solved: usize, unsolved: usize) -> Result<Made, AllocError> {
-        match resolved(self.alloc, &mut self.bank, &self.clauses, solved, unsolved)? {
+    /// Adds the resolvents of a pair.
+    pub fn resolve(&mut self, pair: Pair) -> Result<Made, AllocError> {
+        match resolved(self.alloc, &mut self.bank, &self.clauses, pair)? {
             Resolved::NoUnifier => Ok(Made::Clauses(0)),
             Resolved::Large => Ok(Made::Large),
             Resolved::Clauses(made) => {

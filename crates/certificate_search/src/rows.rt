@@ -2,24 +2,17 @@
 
 ghost use Rattle.certificate_search.specs.Searched.{CanBeSearched};
 
+use crate::found::ChosenCert;
 use crate::pool::{Goal, Looks, Made, Pool};
-use crate::stock::may_subsume;
+use crate::stock::{Kept, may_subsume, pair_of, places_of};
 use crate::task::Task;
-use cert_form::{Cert, Rows};
-use fact_fingerprint::may_resolve;
+use cert_form::{Cert, PlainClauses, Rows};
 use std::alloc::{AllocError, Global};
-
-/// A clause of the certificate, by its place in the pool.
-#[derive(Clone, Copy)]
-struct Listed {
-    place: usize,
-    looks: Looks,
-}
 
 /// The clauses of a certificate, and its rows so far.
 #[derive(Drop)]
-struct Writer {
-    items: Vec<Listed>,
+struct Writer<'a> {
+    items: &'a [Kept],
     rows: Rows,
     goals: Rows,
 }
@@ -31,25 +24,11 @@ fn no_rows(alloc: Global) -> Rows {
     }
 }
 
-/// The clauses at these places.
-fn clauses_at(alloc: Global, pool: &Pool, places: &[usize]) -> Result<Vec<Listed>, AllocError> {
-    let mut items = Vec::with_capacity(alloc, places.len())?;
-    'each: for place in places {
-        if let Some(looks) = pool.looks(*place) {
-            items.push(Listed {
-                place: *place,
-                looks,
-            })?;
-        }
-    }
-    Ok(items)
-}
-
 /// The row by which a clause of the certificate, of this number, subsumes the one at a place.
 fn row_of(
     pool: &Pool,
     number: u32,
-    one: &Listed,
+    one: &Kept,
     place: usize,
     looks: &Looks,
 ) -> Result<Option<Vec<u32>>, AllocError> {
@@ -66,14 +45,14 @@ fn row_of(
     }
 }
 
-impl Writer {
+impl Writer<'_> {
     /// The first row that shows that one of the clauses subsumes the one at a place.
     fn first_row(&self, pool: &Pool, place: usize) -> Result<Option<Vec<u32>>, AllocError> {
         let Some(looks) = pool.looks(place) else {
             return Ok(None);
         };
         let mut number = 0u32;
-        'each: for one in &self.items {
+        'each: for one in self.items {
             number = number.saturating_add(1);
             if let Some(row) = row_of(pool, number, one, place, &looks)? {
                 return Ok(Some(row));
@@ -93,18 +72,18 @@ impl Writer {
         Ok(true)
     }
 
-    /// Adds the rows of what a solved clause gives with an unsolved one. Whether all is covered.
+    /// Adds the rows of what a clause that rests gives with another on the hypothesis that is chosen of it. Whether all is covered.
     fn cover_pair(
         &mut self,
         pool: &mut Pool,
-        solved: Listed,
-        unsolved: Listed,
+        resting: &Kept,
+        other: &Kept,
     ) -> Result<bool, AllocError> {
-        if !may_resolve(&solved.looks.conclusion, &unsolved.looks.selected) {
+        let Some(pair) = pair_of(resting, other) else {
             return Ok(true);
-        }
+        };
         let before = pool.count();
-        match pool.resolve(solved.place, unsolved.place)? {
+        match pool.resolve(pair)? {
             Made::Large => Ok(false),
             Made::Clauses(_) => {
                 let covered = self.cover_all(pool, before, pool.count())?;
@@ -114,19 +93,11 @@ impl Writer {
         }
     }
 
-    /// Adds the rows of what the clause of a number, from 0, gives with each unsolved one, if it is solved. Whether all is covered.
-    fn cover_solved(&mut self, pool: &mut Pool, number: usize) -> Result<bool, AllocError> {
-        let Some(solved) = self.items.get(number).copied() else {
-            return Ok(true);
-        };
-        if solved.looks.selected.is_some() {
-            return Ok(true);
-        }
-        'each: for other in 0..self.items.len() {
-            if let Some(unsolved) = self.items.get(other).copied() {
-                if !self.cover_pair(pool, solved, unsolved)? {
-                    return Ok(false);
-                }
+    /// Adds the rows of what a clause gives with each other, if it rests. Whether all is covered.
+    fn cover_resting(&mut self, pool: &mut Pool, resting: &Kept) -> Result<bool, AllocError> {
+        'each: for other in self.items {
+            if !self.cover_pair(pool, resting, other)? {
+                return Ok(false);
             }
         }
         Ok(true)
@@ -134,8 +105,8 @@ impl Writer {
 
     /// Adds the rows of what all pairs give. Whether all is covered.
     fn cover_pairs(&mut self, pool: &mut Pool) -> Result<bool, AllocError> {
-        'each: for number in 0..self.items.len() {
-            if !self.cover_solved(pool, number)? {
+        'each: for resting in self.items {
+            if !self.cover_resting(pool, resting)? {
                 return Ok(false);
             }
         }
@@ -143,10 +114,13 @@ impl Writer {
     }
 
     /// Adds the goal row of a clause, if it has to have one. Whether it has what it has to.
-    fn add_goal(&mut self, pool: &Pool, task: &Task<'_>, place: usize) -> Result<bool, AllocError>
+    fn add_goal(&mut self, pool: &Pool, task: &Task<'_>, one: &Kept) -> Result<bool, AllocError>
         requires { CanBeSearched task.now.search }
     {
-        match pool.goal(place, &task.search)? {
+        if one.chosen.is_some() {
+            return Ok(true);
+        }
+        match pool.goal(one.place, &task.search)? {
             Goal::NotDue => Ok(true),
             Goal::Unmet => Ok(false),
             Goal::Met(row) => {
@@ -159,48 +133,96 @@ impl Writer {
     }
 
     /// Adds the goal rows. Whether each clause has what it has to.
-    fn add_goals(
-        &mut self,
-        pool: &Pool,
-        task: &Task<'_>,
-        places: &[usize],
-    ) -> Result<bool, AllocError>
+    fn add_goals(&mut self, pool: &Pool, task: &Task<'_>) -> Result<bool, AllocError>
         requires { CanBeSearched task.now.search }
     {
-        'each: for place in places {
-            if !self.add_goal(pool, task, *place)? {
+        'each: for one in self.items {
+            if !self.add_goal(pool, task, one)? {
                 return Ok(false);
             }
         }
         Ok(true)
     }
+
+    /// Adds all rows, for the first clauses of the pool, so many. Whether each clause has what it has to, and all is covered.
+    fn add_rows(
+        &mut self,
+        pool: &mut Pool,
+        task: &Task<'_>,
+        given: usize,
+    ) -> Result<bool, AllocError>
+        requires { CanBeSearched task.now.search }
+    {
+        if !self.add_goals(pool, task)? || !self.cover_all(pool, 0, given)? {
+            return Ok(false);
+        }
+        self.cover_pairs(pool)
+    }
 }
 
-/// The certificate of the clauses at these places, for the first clauses of the pool, so many; none where they aren't closed over
-/// these, or don't show the query.
+/// What is said of a clause: the number of its hypothesis that is chosen, from 1, or 0 where it rests; nothing where selection says the
+/// same.
+fn said_of(pool: &Pool, one: &Kept) -> Option<usize> {
+    let selected = pool.selected(one.place);
+    match one.chosen {
+        None => selected.map(|_| 0),
+        Some(chosen) if selected == Some(chosen.at) => None,
+        Some(chosen) => Some(chosen.at.saturating_add(1)),
+    }
+}
+
+/// What is said of clauses: nothing at all where selection says the same of each.
+fn said_of_all(alloc: Global, pool: &Pool, all: &[Kept]) -> Result<Vec<Option<usize>>, AllocError> {
+    let mut said = Vec::with_capacity(alloc, all.len())?;
+    let mut differs = false;
+    'each: for one in all {
+        let number = said_of(pool, one);
+        differs = differs || number.is_some();
+        said.push(number)?;
+    }
+    if !differs {
+        said.truncate(0);
+    }
+    Ok(said)
+}
+
+/// These clauses over trees.
+pub(crate) fn clauses_of(
+    alloc: Global,
+    pool: &Pool,
+    all: &[Kept],
+) -> Result<PlainClauses, AllocError> {
+    let places = places_of(alloc, all)?;
+    pool.read_all(&places)
+}
+
+/// The certificate of these clauses, for the first clauses of the pool, so many; none where they aren't closed over these, or don't show
+/// the query.
 pub(crate) fn cert_of(
     pool: &mut Pool,
     task: &Task<'_>,
     given: usize,
-    places: &[usize],
-) -> Result<Option<Cert>, AllocError>
+    live: &[Kept],
+) -> Result<Option<ChosenCert>, AllocError>
     requires { CanBeSearched task.now.search }
 {
+    let alloc = task.search.alloc;
     let mut writer = Writer {
-        items: clauses_at(task.search.alloc, pool, places)?,
-        rows: no_rows(task.search.alloc),
-        goals: no_rows(task.search.alloc),
+        items: live,
+        rows: no_rows(alloc),
+        goals: no_rows(alloc),
     };
-    if !writer.add_goals(pool, task, places)?
-        || !writer.cover_all(pool, 0, given)?
-        || !writer.cover_pairs(pool)?
-    {
+    if !writer.add_rows(pool, task, given)? {
         return Ok(None);
     }
-    let clauses = pool.read_all(places)?;
-    Ok(Some(Cert {
-        clauses,
-        rows: writer.rows,
-        goals: writer.goals,
+    let said = said_of_all(alloc, pool, live)?;
+    let clauses = clauses_of(alloc, pool, live)?;
+    Ok(Some(ChosenCert {
+        cert: Cert {
+            clauses,
+            rows: writer.rows,
+            goals: writer.goals,
+        },
+        said,
     }))
 }

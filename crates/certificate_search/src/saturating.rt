@@ -2,10 +2,11 @@
 
 ghost use Rattle.certificate_search.specs.Searched.{CanBeSearched};
 
+use crate::choosing::Chooser;
 use crate::generalizing::{MOST_CHANGED, generalized, symbols_of_steps};
 use crate::plans::most_symbols;
-use crate::pool::{Goal, Made, Pool};
-use crate::stock::{Stock, Waiting};
+use crate::pool::{Candidate, Goal, Made, Pool};
+use crate::stock::{Kept, Stock, Waiting};
 use crate::task::Task;
 use limits::MOST_SYMBOLS;
 use std::alloc::AllocError;
@@ -14,13 +15,13 @@ use std::alloc::AllocError;
 #[derive(Drop)]
 pub(crate) enum Ended {
     /// With nothing new; these are its live clauses.
-    Closed(Vec<usize>),
-    /// At this clause, which is solved, concludes `bad`, and doesn't satisfy the query.
+    Closed(Vec<Kept>),
+    /// At this clause, which rests, concludes `bad`, and doesn't satisfy the query.
     Unmet(usize),
     /// At a pair of clauses that is too large.
     Large,
     /// With as many clauses as there may be, or as many symbols; these are live ones.
-    Spent(Vec<usize>),
+    Spent(Vec<Kept>),
 }
 
 /// Why a saturation doesn't go on.
@@ -30,6 +31,9 @@ enum Stop {
     Large,
     Spent,
 }
+
+/// How often a saturation is begun at most.
+const MOST_BEGUN: usize = 4;
 
 /// The most symbols of a clause in which it is looked for what grows, which takes the square of these.
 const MOST_GROWN: u64 = 500;
@@ -54,24 +58,23 @@ fn wait_all(
     Ok(())
 }
 
-/// Lets the resolvents of the kept clauses of two numbers wait, where they may be resolved, the first solved and the second not.
+/// Lets the resolvents of the kept clauses of two numbers wait, where they may be resolved: the first rests, the second doesn't.
 fn resolve(
     pool: &mut Pool,
     stock: &mut Stock,
-    solved: usize,
-    unsolved: usize,
+    resting: usize,
+    other: usize,
 ) -> Result<Option<Stop>, AllocError> {
-    let Some(pair) = stock.pair(solved, unsolved) else {
+    let Some(pair) = stock.pair(resting, other) else {
         return Ok(None);
     };
-    stock.spend(pair.symbols);
     if stock.is_spent() {
         return Ok(Some(Stop::Spent));
     }
-    match pool.resolve(pair.solved, pair.unsolved)? {
+    match pool.resolve(pair)? {
         Made::Large => Ok(Some(Stop::Large)),
         Made::Clauses(count) => {
-            wait_all(pool, stock, count, (solved, unsolved))?;
+            wait_all(pool, stock, count, (resting, other))?;
             Ok(None)
         }
     }
@@ -92,22 +95,41 @@ fn resolve_last(pool: &mut Pool, stock: &mut Stock) -> Result<Option<Stop>, Allo
     Ok(None)
 }
 
-/// Keeps the clause at a place and resolves it with the others, or says why that isn't done.
+/// Whether the clause at a place, of which this is chosen, rests, concludes `bad`, and doesn't satisfy the query.
+fn is_unmet(
+    pool: &Pool,
+    task: &Task<'_>,
+    place: usize,
+    chosen: &Option<Candidate>,
+) -> Result<bool, AllocError>
+    requires { CanBeSearched task.now.search }
+{
+    if chosen.is_some() {
+        return Ok(false);
+    }
+    match pool.goal(place, &task.search)? {
+        Goal::Unmet => Ok(true),
+        Goal::NotDue | Goal::Met(_) => Ok(false),
+    }
+}
+
+/// Keeps the clause at a place, of which this is chosen, and resolves it with the others, or says why that isn't done.
 fn keep(
     pool: &mut Pool,
     task: &Task<'_>,
     stock: &mut Stock,
     place: usize,
+    chosen: Option<Candidate>,
 ) -> Result<Option<Stop>, AllocError>
     requires { CanBeSearched task.now.search }
 {
-    if let Goal::Unmet = pool.goal(place, &task.search)? {
+    if is_unmet(pool, task, place, &chosen)? {
         return Ok(Some(Stop::Unmet(place)));
     }
     if stock.kept.len() >= task.most {
         return Ok(Some(Stop::Spent));
     }
-    stock.keep(pool, place)?;
+    stock.keep(pool, place, chosen)?;
     resolve_last(pool, stock)
 }
 
@@ -130,6 +152,7 @@ fn take(
     pool: &mut Pool,
     task: &Task<'_>,
     stock: &mut Stock,
+    chooser: &mut Chooser,
     waiting: Waiting,
 ) -> Result<Option<Stop>, AllocError>
     requires { CanBeSearched task.now.search }
@@ -139,7 +162,9 @@ fn take(
         return Ok(None);
     }
     let place = changed(pool, task, stock, waiting)?;
-    keep(pool, task, stock, place)
+    stock.spend(chooser.symbols(waiting.size));
+    let chosen = chooser.chosen(pool, place)?;
+    keep(pool, task, stock, place, chosen)
 }
 
 /// How the saturation ends where it doesn't go on.
@@ -155,7 +180,12 @@ fn stopped(task: &Task<'_>, stock: &Stock, stop: Stop) -> Result<Ended, AllocErr
 }
 
 /// Goes on until nothing waits, or something stops it: each clause that is taken spends a symbol or more.
-fn gone_on(pool: &mut Pool, task: &Task<'_>, stock: &mut Stock) -> Result<Ended, AllocError>
+fn gone_on(
+    pool: &mut Pool,
+    task: &Task<'_>,
+    stock: &mut Stock,
+    chooser: &mut Chooser,
+) -> Result<Ended, AllocError>
     requires { CanBeSearched task.now.search }
 {
     'each: for _ in 0..most_symbols(task.most) {
@@ -166,7 +196,7 @@ fn gone_on(pool: &mut Pool, task: &Task<'_>, stock: &mut Stock) -> Result<Ended,
             let live = stock.live(task.search.alloc, MOST_SYMBOLS)?;
             return Ok(Ended::Closed(live));
         };
-        if let Some(stop) = take(pool, task, stock, waiting)? {
+        if let Some(stop) = take(pool, task, stock, chooser, waiting)? {
             return stopped(task, stock, stop);
         }
     }
@@ -174,12 +204,52 @@ fn gone_on(pool: &mut Pool, task: &Task<'_>, stock: &mut Stock) -> Result<Ended,
 }
 
 /// The saturation of the first clauses of the pool, so many.
-pub(crate) fn saturated(pool: &mut Pool, task: &Task<'_>, given: usize) -> Result<Ended, AllocError>
+fn saturated_once(
+    pool: &mut Pool,
+    task: &Task<'_>,
+    given: usize,
+    chooser: &mut Chooser,
+) -> Result<Ended, AllocError>
     requires { CanBeSearched task.now.search }
 {
     let mut stock = Stock::new(task.search.alloc, most_symbols(task.most));
     'each: for place in 0..given {
         let _ = stock.wait(pool, place, None)?;
     }
-    gone_on(pool, task, &mut stock)
+    gone_on(pool, task, &mut stock, chooser)
+}
+
+/// Whether a saturation has closed.
+fn is_closed(end: &Ended) -> bool {
+    match end {
+        Ended::Closed(_) => true,
+        Ended::Unmet(_) | Ended::Large | Ended::Spent(_) => false,
+    }
+}
+
+/// The same, begun again while it doesn't close and more facts are avoided than when it began, but so often at most.
+fn saturated_again(
+    pool: &mut Pool,
+    task: &Task<'_>,
+    given: usize,
+    chooser: &mut Chooser,
+) -> Result<Ended, AllocError>
+    requires { CanBeSearched task.now.search }
+{
+    'each: for _ in 1..MOST_BEGUN {
+        let avoided = chooser.avoided();
+        let end = saturated_once(pool, task, given, chooser)?;
+        if is_closed(&end) || chooser.avoided() == avoided {
+            return Ok(end);
+        }
+    }
+    saturated_once(pool, task, given, chooser)
+}
+
+/// The saturation of the first clauses of the pool, so many, by the choice of the plan.
+pub(crate) fn saturated(pool: &mut Pool, task: &Task<'_>, given: usize) -> Result<Ended, AllocError>
+    requires { CanBeSearched task.now.search }
+{
+    let mut chooser = Chooser::new(task.search.alloc, task.plan.choice);
+    saturated_again(pool, task, given, &mut chooser)
 }

@@ -1,7 +1,7 @@
 //! The clauses of a saturation: those that are kept, and those that wait.
 
-use crate::pool::{Looks, Pool};
-use fact_fingerprint::{may_meet, may_resolve};
+use crate::pool::{Candidate, Looks, Pair, Pool};
+use fact_fingerprint::may_meet;
 use feature_index::may_cover;
 use std::alloc::{AllocError, Global};
 use std::cmp::Reverse;
@@ -12,6 +12,8 @@ use std::collections::BinaryHeap;
 pub(crate) struct Kept {
     pub place: usize,
     pub looks: Looks,
+    /// The hypothesis on which it is resolved; none where it rests.
+    pub chosen: Option<Candidate>,
     /// Whether no later clause subsumes it.
     pub is_live: bool,
 }
@@ -23,14 +25,6 @@ pub(crate) struct Waiting {
     pub size: u64,
     /// The numbers, from 0, of the kept clauses that it is a resolvent of.
     pub parents: Option<(usize, usize)>,
-}
-
-/// Two kept clauses that may be resolved, by their places in the pool: a solved and an unsolved one, of so many symbols together.
-#[derive(Clone, Copy)]
-pub(crate) struct Pair {
-    pub solved: usize,
-    pub unsolved: usize,
-    pub symbols: u64,
 }
 
 /// The clauses of a saturation, in the order in which they came.
@@ -49,6 +43,29 @@ pub(crate) struct Stock {
 pub(crate) fn may_subsume(general: &Looks, special: &Looks) -> bool {
     may_cover(general.features, special.features)
         && may_meet(&general.conclusion, &special.conclusion)
+}
+
+/// Two clauses, where they may be resolved, since the first rests, and its conclusion may unify with the hypothesis that is chosen of the
+/// second.
+pub(crate) fn pair_of(resting: &Kept, other: &Kept) -> Option<Pair> {
+    let chosen = other.chosen?;
+    if resting.chosen.is_some() || !may_meet(&resting.looks.conclusion, &chosen.fingerprint) {
+        return None;
+    }
+    Some(Pair {
+        resting: resting.place,
+        other: other.place,
+        at: chosen.at,
+    })
+}
+
+/// The places in the pool of clauses, in order.
+pub(crate) fn places_of(alloc: Global, all: &[Kept]) -> Result<Vec<usize>, AllocError> {
+    let mut places = Vec::with_capacity(alloc, all.len())?;
+    'each: for kept in all {
+        places.push(kept.place)?;
+    }
+    Ok(places)
 }
 
 /// Whether a kept clause is live and subsumes the one at a place.
@@ -150,7 +167,7 @@ impl Stock {
     pub(crate) fn has_live_parents(&self, waiting: &Waiting) -> bool {
         match waiting.parents {
             None => true,
-            Some((solved, unsolved)) => self.is_live(solved) && self.is_live(unsolved),
+            Some((resting, other)) => self.is_live(resting) && self.is_live(other),
         }
     }
 
@@ -205,8 +222,13 @@ impl Stock {
         Ok(true)
     }
 
-    /// Keeps the clause at a place. Those that it subsumes are live no more.
-    pub(crate) fn keep(&mut self, pool: &Pool, place: usize) -> Result<(), AllocError> {
+    /// Keeps the clause at a place, of which this is chosen. Those that it subsumes are live no more.
+    pub(crate) fn keep(
+        &mut self,
+        pool: &Pool,
+        place: usize,
+        chosen: Option<Candidate>,
+    ) -> Result<(), AllocError> {
         let Some(looks) = pool.looks(place) else {
             return Ok(());
         };
@@ -216,37 +238,33 @@ impl Stock {
         self.kept.push(Kept {
             place,
             looks,
+            chosen,
             is_live: true,
         })?;
         Ok(())
     }
 
-    /// The kept clauses of two numbers, where they are live and may be resolved, the first solved and the second not.
-    pub(crate) fn pair(&self, solved: usize, unsolved: usize) -> Option<Pair> {
-        let first = self.kept.get(solved)?;
-        let second = self.kept.get(unsolved)?;
-        if first.is_live
-            && second.is_live
-            && first.looks.selected.is_none()
-            && may_resolve(&first.looks.conclusion, &second.looks.selected)
-        {
-            return Some(Pair {
-                solved: first.place,
-                unsolved: second.place,
-                symbols: first.looks.size.saturating_add(second.looks.size),
-            });
+    /// The kept clauses of two numbers, where they are live and may be resolved, since the first rests, and its conclusion may unify with
+    /// the hypothesis that is chosen of the second. This spends their symbols.
+    pub(crate) fn pair(&mut self, resting: usize, other: usize) -> Option<Pair> {
+        let first = self.kept.get(resting).copied()?;
+        let second = self.kept.get(other).copied()?;
+        if !first.is_live || !second.is_live {
+            return None;
         }
-        None
+        let pair = pair_of(&first, &second)?;
+        self.spend(first.looks.size.saturating_add(second.looks.size));
+        Some(pair)
     }
 
-    /// The places in the pool of the live clauses of so many symbols at most, in order.
-    pub(crate) fn live(&self, alloc: Global, most: u64) -> Result<Vec<usize>, AllocError> {
-        let mut places = Vec::new(alloc);
+    /// The live clauses of so many symbols at most, in order.
+    pub(crate) fn live(&self, alloc: Global, most: u64) -> Result<Vec<Kept>, AllocError> {
+        let mut live = Vec::new(alloc);
         'each: for kept in &self.kept {
             if kept.is_live && kept.looks.size <= most {
-                places.push(kept.place)?;
+                live.push(*kept)?;
             }
         }
-        Ok(places)
+        Ok(live)
     }
 }

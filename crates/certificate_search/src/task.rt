@@ -1,8 +1,9 @@
 //! What a saturation is about.
 
 use crate::found::Search;
+use crate::plans::Plan;
 use cert_form::PlainClauses;
-use clause_generalize::{Asked, Manner};
+use clause_generalize::Asked;
 
 /// What is given for a query that is to be certified: the clauses of its translation, and what it asks of events.
 #[derive(Clone, Copy)]
@@ -11,11 +12,11 @@ pub(crate) struct Given<'a> {
     pub asked: &'a Asked,
 }
 
-/// A query that is to be certified, in which manner clauses are made more general, and how many clauses are kept at most.
+/// A query that is to be certified, by which plan, and how many clauses are kept at most.
 #[derive(Clone, Copy)]
 pub struct Task<'a> {
     pub search: Search<'a>,
     pub asked: &'a Asked,
-    pub manner: &'a Manner,
+    pub plan: &'a Plan,
     pub most: usize,
 }

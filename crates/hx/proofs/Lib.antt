@@ -5,3 +5,4 @@ pub mod Found
 pub mod Reachable
 pub mod Putting
 pub mod Placed
+pub mod Choosing

@@ -1,11 +1,12 @@
 -- The text of a certificate that was looked for: a report, or that there is none.
-use Rattle.std.specs.Prelude.{◌≡◌, ℕ, zero, suc, nat_eq, cond, List, [], ◌++◌, length, codes}
+use Rattle.std.specs.Prelude.{◌≡◌, ℕ, zero, suc, nat_eq, cond, List, [], ◌∷◌, ◌++◌, length, codes, Option}
 use Rattle.std.specs.Fmt.{decimal}
 use Rattle.spec_calculus.specs.Syntax.{Protocol}
 use Rattle.spec_certificates.specs.Certificate.{Certificate}
 use Rattle.cert_form.specs.Writing.{text_in, format_for}
 use Rattle.query_derive.specs.GoalRows.{OfQuery}
 use Rattle.certificate_search.specs.Searched.{Certifies}
+use Rattle.choice_text.specs.Choices.{chosen_text}
 use Rattle.hx.specs.declared.outcome.Outcome.{Outcome}
 use Rattle.hx.specs.declared.outcome.Outcome.TheVariants as ends
 use Rattle.hx.specs.declared.outcome.Output.{Output}
@@ -29,11 +30,19 @@ module _ (P : Protocol) (query format : ℕ) (cert : Certificate) where
   abbrev pub report_text : List ℕ
   report_text = told_lines (length P.queries)
 
--- The text is the report of a certificate of this query, which the checker accepts; so no run violates the query.
+-- The text is the report of a certificate of which this is said: in the format that is wanted where nothing is, and else in format 3, which has what is
+-- said beside the lines of format 2.
+abbrev pub IsReport : Protocol → ℕ → ℕ → Certificate → List (Option ℕ) → List ℕ → Type 0
+IsReport P query format cert [] text = text ≡ report_text P query format cert
+IsReport P query format cert (first ∷ others) text =
+    (format_for 2 cert.clauses ≡ 2) × (text ≡ chosen_text (report_text P query 2 cert) ((first ∷ others) ∷ []))
+
+-- The text is the report of a certificate of this query, which the checker accepts by what it says of its clauses; so no run violates the query.
 pub record TellsCertificate (P : Protocol) (query format : ℕ) (text : List ℕ) : Type 0 where
   pub cert : Certificate
-  pub certifies : OfQuery P query (λ q. Certifies P q cert)
-  pub is : text ≡ report_text P query format cert
+  pub said : List (Option ℕ)
+  pub certifies : OfQuery P query (λ q. Certifies P q cert said)
+  pub is : IsReport P query format cert said text
 
 -- The text is a line that says that there is no certificate, and why.
 pub record TellsNone (text : List ℕ) : Type 0 where

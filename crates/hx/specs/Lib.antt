@@ -2,6 +2,7 @@ pub mod Readable
 pub mod Attacks
 pub mod AttackText
 pub mod CertificateText
+pub mod CheckText
 pub mod Pages
 pub mod Reached
 pub mod Explained

@@ -5,9 +5,10 @@ use Rattle.hx.specs.declared.outcome.Refusal.TheVariants as refused
 use Rattle.hx.specs.declared.outcome.Outcome.{Outcome}
 use Rattle.hx.specs.declared.outcome.Outcome.TheVariants as ends
 
--- 3 of a protocol that is refused, 4 of a run
+-- 3 of a protocol that is refused, 4 of a report or a run
 abbrev pub refused_status : Refusal → ℕ
 refused_status (refused.Protocol line column code) = 3
+refused_status (refused.Report line code) = 4
 refused_status (refused.Run line code) = 4
 
 abbrev pub HasStatus : Outcome → ℕ → Type 0

@@ -13,7 +13,7 @@ use std::alloc::{AllocError, Global};
 
 /// What is written for words that are no command.
 const USAGE: &[u8] =
-    b"usage: points FILE | log FILE QUERY [--budget N] | warn FILE [--strict] | draw FILE RUN [--svg | --width N] | draw FILE --attack QUERY [--svg | --width N] [--budget N] | why FILE QUERY [--budget N] | attack FILE QUERY [--budget N] | reach FILE [--budget N] [--runs] | certify FILE QUERY [--budget N] [--format F]\n";
+    b"usage: points FILE | log FILE QUERY [--budget N] | warn FILE [--strict] | draw FILE RUN [--svg | --width N] | draw FILE --attack QUERY [--svg | --width N] [--budget N] | why FILE QUERY [--budget N] | attack FILE QUERY [--budget N] | reach FILE [--budget N] [--runs] | certify FILE QUERY [--budget N] [--format F] | check FILE REPORT\n";
 
 /// What is written for a run with more steps than are drawn.
 const LONG_RUN: &[u8] = b"long run: 2000 steps are drawn at most\n";
@@ -32,6 +32,9 @@ fn put_refusal(out: &mut Vec<u8>, refusal: Refusal) -> Result<(), AllocError> {
     match refusal {
         Refusal::Protocol { line, column, code } => {
             put_words(out, format_args!("refused {line}:{column} {code}\n"))
+        }
+        Refusal::Report { line, code } => {
+            put_words(out, format_args!("refused report {line} {code}\n"))
         }
         Refusal::Run { line, code } => put_words(out, format_args!("refused run {line} {code}\n")),
     }

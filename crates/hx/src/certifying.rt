@@ -1,21 +1,29 @@
 //! The report of a certificate that was looked for, or why none was found.
 
-ghost use Rattle.std.specs.Prelude.{◌≡◌, ◌<◌, ◌^◌, ◌++◌, ℕ, length, OnOk, IfOk};
+ghost use Rattle.std.specs.Prelude.{◌≡◌, ◌<◌, ◌^◌, ◌++◌, ◌∷◌, ℕ, [], length, OnOk, IfOk};
 ghost use Rattle.spec_calculus.specs.Syntax.{Protocol as Calculus};
 ghost use Rattle.pi_tree.specs.Protocols.{protocol_of};
 ghost use Rattle.query_derive.specs.GoalRows.{OfQuery};
 ghost use Rattle.certificate_search.specs.Searched.{protocol_at, Certifies, IsProvenFound};
+ghost use Rattle.choice_text.specs.Choices.{chosen_text};
 ghost use Rattle.hx.specs.CertificateText.{proved_text, told_text, report_text, IsCertificatePage};
 
 use crate::outcome::{Outcome, Output};
 use cert_form::{Cert, format_for, put_cert, put_clause};
 use certificate_search::{Failure, Found, Growth, Search, Trial};
+use choice_text::{Said, put_choices};
 use clause_form::PlainClause;
 use hv_io::put_words;
 use pi_tree::{Kind, Protocol};
 use protocol_text::declared_word;
 use std::alloc::{AllocError, Global};
 use term_tree::Sym;
+
+/// The format of which format 3 has the lines, beside those that say what is chosen of clauses.
+const NUMBERED: u8 = 2;
+
+/// Why there is no report of a certificate that says something of clauses which are too large for a table of nodes.
+const TOO_LARGE: &[u8] = b": the one that is found is too large for format 3";
 
 /// What a report claims: that the query of that number is proved, by this certificate, which is written in that format.
 #[derive(Clone, Copy)]
@@ -67,20 +75,44 @@ fn put_report(out: &mut Vec<u8>, claim: &Claim<'_>) -> Result<(), AllocError>
     Ok(())
 }
 
-/// The report of this claim.
-fn report_page(alloc: Global, claim: &Claim<'_>) -> Result<Output, AllocError>
+/// The text of this report.
+fn report_of(alloc: Global, claim: &Claim<'_>) -> Result<Vec<u8>, AllocError>
     requires few { length (protocol_of claim.now.protocol.now).queries < 2 ^ 32 }
-    requires certifies { OfQuery (protocol_of claim.now.protocol.now) claim.now.query (λ q.
-        Certifies (protocol_of claim.now.protocol.now) q claim.now.cert.now) }
-    ensures { IfOk result
-        (IsCertificatePage (protocol_of claim.now.protocol.now) claim.now.query claim.now.format) }
+    ensures { let P = protocol_of claim.now.protocol.now in
+        IfOk result (λ text. text.items ≡
+        report_text P claim.now.query claim.now.format claim.now.cert.now) }
 {
     let mut text = Vec::new(alloc);
     put_report(&mut text, claim)?;
-    Ok(Output {
-        outcome: Outcome::Shown,
-        text,
-    })
+    Ok(text)
+}
+
+/// What is said of the certificates of a report that has one, of which this is said.
+fn said_of_one(alloc: Global, said: &[Option<usize>]) -> Result<Said, AllocError>
+    ensures { IfOk result (λ all. all ≡ said.now ∷ []) }
+{
+    let mut items = Vec::new(alloc);
+    items.push(Vec::from_slice(alloc, said)?)?;
+    Ok(Said { items })
+}
+
+/// The text of this report, with what its certificate says of its clauses.
+fn chosen_report(
+    alloc: Global,
+    claim: &Claim<'_>,
+    said: &[Option<usize>],
+) -> Result<Vec<u8>, AllocError>
+    requires few { length (protocol_of claim.now.protocol.now).queries < 2 ^ 32 }
+    ensures { let P = protocol_of claim.now.protocol.now in
+        IfOk result (λ text. text.items ≡
+        chosen_text (report_text P claim.now.query claim.now.format claim.now.cert.now)
+        (said.now ∷ [])) }
+{
+    let said = said_of_one(alloc, said)?;
+    let plain = report_of(alloc, claim)?;
+    let mut text = Vec::new(alloc);
+    put_choices(&mut text, &plain, &said)?;
+    Ok(text)
 }
 
 /// That there is no certificate, and why.
@@ -95,6 +127,37 @@ fn none_page(alloc: Global, why: &[u8]) -> Result<Output, AllocError>
     Ok(Output {
         outcome: Outcome::NotFound,
         text,
+    })
+}
+
+/// The report of this claim: in format 3 where the certificate says something of its clauses, and else in the format of the claim.
+fn report_page(
+    alloc: Global,
+    claim: &Claim<'_>,
+    said: &[Option<usize>],
+) -> Result<Output, AllocError>
+    requires few { length (protocol_of claim.now.protocol.now).queries < 2 ^ 32 }
+    requires certifies { OfQuery (protocol_of claim.now.protocol.now) claim.now.query (λ q.
+        Certifies (protocol_of claim.now.protocol.now) q claim.now.cert.now said.now) }
+    ensures { IfOk result
+        (IsCertificatePage (protocol_of claim.now.protocol.now) claim.now.query claim.now.format) }
+{
+    if said.is_empty() {
+        return Ok(Output {
+            outcome: Outcome::Shown,
+            text: report_of(alloc, claim)?,
+        });
+    }
+    if format_for(NUMBERED, claim.cert) != NUMBERED {
+        return none_page(alloc, TOO_LARGE);
+    }
+    let numbered = Claim {
+        format: NUMBERED,
+        ..*claim
+    };
+    Ok(Output {
+        outcome: Outcome::Shown,
+        text: chosen_report(alloc, &numbered, said)?,
     })
 }
 
@@ -196,14 +259,14 @@ pub(crate) fn found_page(
         query,
         budget: _,
     } = *search;
-    if let Found::Certificate(cert, _) = found {
+    if let Found::Certificate(chosen, _) = found {
         let claim = Claim {
             protocol,
             query,
-            cert,
+            cert: &chosen.cert,
             format,
         };
-        return report_page(alloc, &claim);
+        return report_page(alloc, &claim, &chosen.said);
     }
     let mut why = Vec::new(alloc);
     put_why(&mut why, protocol, found)?;

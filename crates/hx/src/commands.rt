@@ -20,6 +20,8 @@ const REACH: &str = "reach";
 
 const CERTIFY: &str = "certify";
 
+const CHECK: &str = "check";
+
 /// The options, which stand behind all other words of a command.
 const BUDGET: &str = "--budget";
 
@@ -67,7 +69,7 @@ pub struct CertificateOf {
     pub query: u32,
     /// How many clauses a plan of the search may keep, from 0 to the limit of budgets.
     pub budget: u32,
-    /// The format in which the certificate is written, 1 or 2.
+    /// The format in which the certificate is written, 1 or 2, where all is by selection.
     pub format: u8,
 }
 
@@ -119,6 +121,11 @@ pub enum Command<'a> {
     },
     /// `certify FILE QUERY [--budget N] [--format F]`: a report with a certificate of the query.
     Certify(CertificateOf),
+    /// `check FILE REPORT`: what is found of the certificates of a report.
+    Check {
+        /// The name of the report's file.
+        report: &'a str,
+    },
 }
 
 /// What the words of a command line ask for.
@@ -274,6 +281,15 @@ fn alone<'a>(command: Command<'a>, words: &[String]) -> Option<Command<'a>> {
     }
 }
 
+/// Of which report the words behind the name of a file ask for the check.
+fn check_in(words: &[String]) -> Option<Command<'_>> {
+    let [report] = words else {
+        return None;
+    };
+    let report = name_in(report.as_str())?;
+    Some(Command::Check { report })
+}
+
 /// What the word of a command and those behind the name of the file ask to show.
 fn command_in<'a>(word: &str, words: &'a [String]) -> Option<Command<'a>> {
     match word {
@@ -287,6 +303,7 @@ fn command_in<'a>(word: &str, words: &'a [String]) -> Option<Command<'a>> {
         ATTACK => Some(Command::Attack(log_in(words)?)),
         REACH => reach_in(words),
         CERTIFY => Some(Command::Certify(certify_in(words)?)),
+        CHECK => check_in(words),
         _ => None,
     }
 }

@@ -5,6 +5,7 @@ mod attack_text;
 mod attacking;
 mod call;
 mod certifying;
+mod checking;
 mod commands;
 mod ending;
 mod impossible;

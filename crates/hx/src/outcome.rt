@@ -2,6 +2,7 @@
 
 ghost use Rattle.hx.specs.Status.{HasStatus};
 
+use call_outcomes::ReportCode;
 use pi_model::StepError;
 use std::alloc::AllocError;
 
@@ -13,6 +14,11 @@ pub enum Refusal {
         line: u64,
         column: u64,
         code: &'static str,
+    },
+    /// The report; the line is counted from 1.
+    Report {
+        line: u64,
+        code: ReportCode,
     },
     /// The run; the line is counted from 1.
     Run {
@@ -79,6 +85,7 @@ pub fn status(outcome: Outcome) -> u8
         | Outcome::LongRun => 1,
         Outcome::Usage => 2,
         Outcome::Refused(Refusal::Protocol { .. }) => 3,
+        Outcome::Refused(Refusal::Report { .. }) => 4,
         Outcome::Refused(Refusal::Run { .. }) => 4,
         Outcome::ReadFault => 5,
         Outcome::Memory => 7,

@@ -1,9 +1,11 @@
 //! What each command shows.
 
 ghost use Rattle.std.specs.Prelude.{◌<◌, ◌^◌, IfOk, OnOk};
+ghost use Rattle.spec_certificate_text.specs.OfProtocol.{HasNames};
 ghost use Rattle.pi_tree.specs.Protocols.{protocol_of};
 ghost use Rattle.pi_tree.specs.Accessors.{IsThere};
 ghost use Rattle.pi_tree.specs.declared.accessors.Kind.TheVariants.{Query as OfQueries};
+ghost use Rattle.protocol_loading.specs.Outside.{outside};
 ghost use Rattle.hx.specs.Logged.{CanBeExplained};
 ghost use Rattle.hx.specs.AttackText.{TellsFinding};
 ghost use Rattle.hx.specs.CertificateText.{IsCertificatePage};
@@ -13,6 +15,7 @@ ghost use Rattle.hx.specs.Readable.{IsReadable};
 use crate::attack_text::put_finding;
 use crate::attacking::{Finding, Question, attack_of, run_of};
 use crate::certifying::found_page;
+use crate::checking::check_page;
 use crate::commands::{CertificateOf, Command, LogOf, Look, Request, RunOf};
 use crate::impossible::impossible;
 use crate::loading::{load_protocol, load_run, read, refused_protocol};
@@ -342,8 +345,10 @@ fn shown<F: Files>(
     command: Command<'_>,
     files: &mut F,
 ) -> Result<Output, Outcome>
-    requires { IsReadable (protocol_of loaded.protocol.now) }
-    ensures { IfOk result (IsPageOf (protocol_of loaded.entry.protocol.now) command.entry) }
+    requires readable { IsReadable (protocol_of loaded.protocol.now) }
+    requires names { HasNames (protocol_of loaded.protocol.now) }
+    ensures { IfOk result (IsPageOf (protocol_of loaded.entry.protocol.now)
+        (outside F.held F.faults F.loads files.old files.new) command.entry) }
 {
     match command {
         Command::Points => Ok(whole(points_of(loaded)?)),
@@ -354,6 +359,9 @@ fn shown<F: Files>(
         Command::Attack(asked) => attack_page(loaded, asked),
         Command::Reach { budget, with_runs } => reach_page(loaded, budget, with_runs),
         Command::Certify(asked) => certificate_page(loaded, asked),
+        Command::Check { report } => {
+            check_page(loaded.source.alloc, loaded.protocol, report, files)
+        }
     }
 }
 
@@ -364,7 +372,8 @@ fn shown_of<F: Files>(
     command: Command<'_>,
     files: &mut F,
 ) -> Result<Output, Outcome>
-    ensures { IfOk result (IsPageOfText bytes.now command.entry) }
+    ensures { IfOk result (IsPageOfText bytes.now
+        (outside F.held F.faults F.loads files.old files.new) command.entry) }
 {
     match read(alloc, bytes) {
         Err(why) => Err(refused_protocol(bytes, why)),

@@ -1,0 +1,4 @@
+mod Found
+mod Limits
+mod OneAnswer
+mod Told

@@ -1,0 +1,4 @@
+pub mod Cuts
+pub mod Passing
+pub mod Choosing
+pub mod Written

@@ -1,0 +1,5 @@
+pub mod Choices
+pub mod Codes
+pub mod Lines
+pub mod Seen
+pub mod Splitting
