@@ -18,10 +18,10 @@ class Unreadable(Exception):
     """A line of a table that says nothing."""
 
 
-def run(words, folder):
-    """The status of a call of the program in a folder, and what it writes."""
+def run(words, folder, program=None):
+    """The status of a call of the program, or of another one, in a folder, and what it writes."""
     ran = subprocess.run(
-        words, executable=PROGRAM, cwd=folder, stdin=subprocess.DEVNULL, stdout=subprocess.PIPE, timeout=SECONDS
+        words, executable=program or PROGRAM, cwd=folder, stdin=subprocess.DEVNULL, stdout=subprocess.PIPE, timeout=SECONDS
     )
     return ran.returncode, ran.stdout
 
